@@ -10,6 +10,7 @@ mod OneTree
 mod Onward
 mod OpenRules
 mod Parts
+mod Precedence
 mod Stages
 mod Steps
 mod Teaching

@@ -1,12 +1,14 @@
 -- What the parse call answers.
 use Rattle.g4_net.specs.Network.{ParserNetwork}
 use Rattle.std.specs.Prelude.{◌≡◌, ◌⊎◌, ℕ, List, Result, Ok, Err, Contains, drop, length}
+use Rattle.g4_grammar.specs.StepRules.{StepRule}
 use Rattle.g4_tokens.specs.Symbols.{end_of_list}
 use Rattle.g4_trees.specs.declared.tree.Item.{Item}
 use Rattle.g4_trees.specs.Trees.{Tree, items_of, tokens_of}
 use Rattle.g4_parse.specs.declared.parser.ParseFault.{ParseFault}
 use Rattle.g4_parse.specs.declared.parser.ParseFault.TheVariants.{NoViable, Mismatch, FailedPredicate, TooDeep, NoMemory}
 use Rattle.g4_run.specs.Running.{parsed, not_viable, mismatch, failed_predicate, too_deep, Ends, Values}
+use Rattle.g4_written.specs.Precedence.{KeepsPrecedence}
 
 -- what a fault says of the run
 abbrev pub IsParseFault : ParserNetwork → Values → List ℕ → ParseFault → Type 0
@@ -30,6 +32,10 @@ IsAcceptance Unpredicated Derived (Err (Mismatch at state)) = Unpredicated → D
 IsAcceptance Unpredicated Derived (Err (FailedPredicate at rule)) = Unpredicated → Derived → ⊥
 IsAcceptance Unpredicated Derived (Err (TooDeep at)) = Unit {0}
 IsAcceptance Unpredicated Derived (Err NoMemory) = Unit {0}
+
+-- the items are those of a tree that keeps precedence
+abbrev pub KeepPrecedence : List StepRule → List Item → Type 0
+KeepPrecedence rules xs = (t : Tree) × (xs ≡ items_of t) × KeepsPrecedence rules t
 
 -- after as many tokens as the tree has, only symbols of the set and END are left in the list
 abbrev pub LeavesClosing : List ℕ → List ℕ → List Item → Type 0

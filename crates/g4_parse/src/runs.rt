@@ -6,7 +6,7 @@ ghost use Rattle.g4_layout.specs.Built.{IsBuilt};
 ghost use Rattle.g4_learned.specs.Stored.{IsPlan};
 ghost use Rattle.g4_leftrec.specs.Rewriting.{numberings, rewritten};
 ghost use Rattle.g4_derivation.specs.Spelling.{DerivesFrom};
-ghost use Rattle.g4_parse.specs.Parsing.{IsAcceptance, IsParse, LeavesClosing};
+ghost use Rattle.g4_parse.specs.Parsing.{IsAcceptance, IsParse, KeepPrecedence, LeavesClosing};
 ghost use Rattle.g4_parse.specs.Teaching.{HadMemory, HasKept, IsPassed, IsTaught};
 ghost use Rattle.g4_tokens.specs.TokenList.{word_of, EndsInEnd};
 ghost use Rattle.g4_tree_check.specs.TreesOf.{IsTreeOf};
@@ -57,7 +57,7 @@ fn run<B: Home<DecisionNet>, R: Wait, L: Ledger, P: Predicates>(
 
 /// The tree of a token list, with these values of its grammar's predicates. Only a list that the rules derive, as they are written, has
 /// one, and where they have no predicate each such list has, unless too many rules are open. All tokens are in it but those that end the
-/// list. What the store's threads have learned makes no difference to it; what SLL looks at in the run is learned then, as far as the
+/// list, and its right operands keep precedence. What the store's threads have learned makes no difference to it; what SLL looks at in the run is learned then, as far as the
 /// store has room.
 ///
 /// # Errors
@@ -82,6 +82,9 @@ pub fn parse<B: Home<DecisionNet>, R: Wait, L: Ledger, P: Predicates>(
     ensures whole { (set : List ℕ) (rules : List StepRule) (start : List ℕ) → CanBeRewritten rules →
         IsBuilt set (rewritten rules) (numberings rules) start B.plan.net.net
         → IfOk result (LeavesClosing set (word_of tokens.now)) }
+    ensures precedence { (set : List ℕ) (rules : List StepRule) (start : List ℕ) → CanBeRewritten rules →
+        IsBuilt set (rewritten rules) (numberings rules) start B.plan.net.net
+        → IfOk result (KeepPrecedence rules) }
     ensures accepts { (set : List ℕ) (rules : List StepRule) (start : List ℕ) → CanBeRewritten rules →
         IsBuilt set (rewritten rules) (numberings rules) start B.plan.net.net
         → IsAcceptance (AreUnpredicated rules) (DerivesFrom set rules start (word_of tokens.now)) result }
