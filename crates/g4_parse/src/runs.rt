@@ -57,8 +57,8 @@ fn run<B: Home<DecisionNet>, R: Wait, L: Ledger, P: Predicates>(
 
 /// The tree of a token list, with these values of its grammar's predicates. Only a list that the rules derive, as they are written, has
 /// one, and where they have no predicate each such list has, unless too many rules are open. All tokens are in it but those that end the
-/// list, and its right operands keep precedence. What the store's threads have learned makes no difference to it; what SLL looks at in the run is learned then, as far as the
-/// store has room.
+/// list, and its right operands keep precedence. What the store's threads have learned makes no difference to it; what SLL looks at in
+/// the run is learned then, as far as the store has room.
 ///
 /// # Errors
 /// The fault at which the run stops, or no memory.

@@ -60,8 +60,9 @@ module _ (rules : List StepRule) where
         → HasOperatorsFrom k q left → HasOperatorsFrom k q (node k i at children)
 
   abbrev mutual
-    -- In each node of the tree whose alternative has a right operand, that is the last child, and its operators have the precedence that
-    -- the alternative asks for. Nothing is said of other children, nor of what is in the operand but not among its first children.
+    -- In each node of the tree whose alternative has a right operand, the last child, which is this operand, has operators from the
+    -- precedence on that the alternative asks for. Nothing is said of other children, nor of what is in the operand but not among its
+    -- first children: so not of what is after a prefix operator in it, as `+` in the operand of `*` in `1 * - 2 + 3`.
     pub KeepsPrecedence : Tree → Type 0
     KeepsPrecedence (leaf at) = Unit {0}
     KeepsPrecedence (node k i at children) = ((q : ℕ) (t : Tree) → HasOperand k i q → IsLastTree children t → HasOperatorsFrom k q t)
