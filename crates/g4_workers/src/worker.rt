@@ -25,7 +25,8 @@ pub struct Worker<S, O> {
     pub lost: bool,
 }
 
-/// Works on the next file. Whether there was one, and memory for its outcome.
+/// Works on the next file. Whether there was one, and memory for its outcome. The room for the outcome is made before the file is
+/// taken: once the work on a file is done, and what it went by is given back, nothing that was found is lost for want of memory.
 fn work_on_next<R: Wait, S, O: Drop, W: Work<S, O>>(
     rt: &R,
     work: &W,
@@ -35,6 +36,9 @@ fn work_on_next<R: Wait, S, O: Drop, W: Work<S, O>>(
     ensures ready { IsReady (W.has_done work.now) (W.files work.now) (W.is_outcome work.now) worker.new }
     ensures number { worker.new.number ≡ worker.old.number }
 {
+    if worker.outcomes.reserve(1).is_err() {
+        return false;
+    }
     let Some(file) = worker.hand.take(rt) else {
         return false;
     };
@@ -42,10 +46,7 @@ fn work_on_next<R: Wait, S, O: Drop, W: Work<S, O>>(
         worker.lost = true;
         return false;
     };
-    if worker.outcomes.push(Numbered { file, outcome }).is_err() {
-        worker.lost = true;
-        return false;
-    }
+    worker.outcomes.push_reserved(Numbered { file, outcome });
     true
 }
 
