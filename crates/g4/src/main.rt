@@ -1,7 +1,10 @@
 // The program: the real files and streams around the top call.
 #![tactic(auto)]
 
-use g4_ports::{Failure, FileShelf, Open, OutSink};
+mod progress;
+
+use crate::progress::{AfterProgress, Progress};
+use g4_ports::{Failure, FileShelf, OutSink};
 use g4_tool::{Status, run};
 use std::process::ExitCode;
 use std::{env, io};
@@ -34,8 +37,9 @@ fn main(rt: HostRuntime) -> ExitCode {
         Err(_) => Vec::new(rt.alloc()),
     };
     let mut shelf = FileShelf::new(&rt);
-    let mut out = OutSink::new(rt.stdout());
-    let mut err = OutSink::new(rt.stderr());
+    let progress = Progress::new(&rt);
+    let mut out = AfterProgress::new(OutSink::new(rt.stdout()), &progress);
+    let mut err = AfterProgress::new(OutSink::new(rt.stderr()), &progress);
     let status = run(
         &rt,
         rt.alloc(),
@@ -43,15 +47,16 @@ fn main(rt: HostRuntime) -> ExitCode {
         &mut shelf,
         &mut out,
         &mut err,
-        &Open,
+        &progress,
     );
+    progress.clear();
     // A run that ends without a line of its own says why. Where that cannot be written, only the status says so.
     let _said = match status {
         Status::Unread => match shelf.failure() {
             Some(failure) => report_failure(&rt, failure),
             None => Ok(()),
         },
-        Status::Unwritten => match out.failure().or(err.failure()) {
+        Status::Unwritten => match out.inner().failure().or(err.inner().failure()) {
             Some(reason) => eprintln!(rt; "g4: {reason}"),
             None => Ok(()),
         },
