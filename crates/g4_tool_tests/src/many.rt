@@ -75,7 +75,10 @@ fn wanted(alloc: Global, lengths: &[usize]) -> Result<String, AllocError> {
         }
     }
     let files = lengths.len();
-    write!(text, "files {files} accepted {files}\nlearned 2 rows 4 edges\n")?;
+    write!(
+        text,
+        "files {files} accepted {files}\nlearned 2 rows 4 edges\n"
+    )?;
     Ok(text)
 }
 
