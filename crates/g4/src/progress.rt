@@ -48,7 +48,10 @@ impl<'a> Progress<'a> {
         let Ok(past) = begun.elapsed(self.rt) else {
             return false;
         };
-        let now = past.as_millis() as u64;
+        let now = past
+            .as_secs()
+            .saturating_mul(1000)
+            .saturating_add(u64::from(past.subsec_millis()));
         let due = self.due.load(Ordering::SeqCst);
         now >= due
             && self
