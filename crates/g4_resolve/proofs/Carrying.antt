@@ -66,11 +66,11 @@ each_parser_rule P (Lexer rule ∷ rules) h = each_parser_rule P rules
 
 module _ (names predicates : List (List ℕ)) (lexers : List LexerRule) (types : List TokenEntry) where
   -- the step of an atom
-  abbrev becomes : Atom → Step (List ℕ)
+  abbrev pub becomes : Atom → Step (List ℕ)
   becomes a = step_of names predicates lexers types a.kind
 
   -- the alternatives of a rule over steps
-  tree_of : (rule : ParserRule Atom)
+  pub tree_of : (rule : ParserRule Atom)
       → alternatives_of (resolved_rule names predicates lexers types rule) ≡ either_over becomes (alternatives_of rule)
   tree_of rule = go rule.alternatives
     where
@@ -199,7 +199,7 @@ module _ (all : List Rule) (lexers : List LexerRule) (types : List TokenEntry) w
       × (ys ≡ either_over (step_in names predicates lexers types) xs)
 
   -- a rule over steps is one of the rules
-  rule_back : (k : ℕ) (ys : Alternatives (Step (List ℕ))) → slice_get (map alternatives_of made) k ≡ Some ys →
+  pub rule_back : (k : ℕ) (ys : Alternatives (Step (List ℕ))) → slice_get (map alternatives_of made) k ≡ Some ys →
       (rule : ParserRule Atom) × (slice_get (parser_rules all) k ≡ Some rule)
       × (ys ≡ either_over (becomes names predicates lexers types) (alternatives_of rule))
   rule_back k ys is = by (slice_get (parser_rules all) k) refl

@@ -18,7 +18,7 @@ use Rattle.g4_grammar.specs.Written.{predicate_text, predicate_texts, rule_predi
 use Rattle.g4_resolve.specs.Resolving.{IsPredicateOf, place_named}
 
 -- an item of a list is its first or one of the others
-first_or_other : {X : Type 0} (first : X) (xs : List X) (x : X) → Contains (first ∷ xs) x → (first ≡ x) ⊎ Contains xs x
+pub first_or_other : {X : Type 0} (first : X) (xs : List X) (x : X) → Contains (first ∷ xs) x → (first ≡ x) ⊎ Contains xs x
 first_or_other first xs x (zero, less, is) = inl is
 first_or_other first xs x (suc k, less, is) = inr (k, omega (arith, less), is)
 

@@ -1,3 +1,4 @@
--- Other crates cite Resolving; only this crate cites Texts.
+-- Other crates cite Derivations, Resolving; only this crate cites Texts.
+pub mod Derivations
 pub mod Resolving
 pub mod Texts

@@ -8,6 +8,7 @@ mod resolving;
 mod texts;
 
 pub use law::{
-    predicates_have_their_texts, predicates_of_one_number, untested_rules_are_unpredicated,
+    predicates_have_their_texts, predicates_of_one_number, rules_derive_by_name,
+    untested_rules_are_unpredicated,
 };
 pub use resolving::resolve;
