@@ -1,4 +1,6 @@
+mod AddedRule
 mod Built
+mod ByName
 mod CarriedOut
 mod Composed
 mod Counted

@@ -1,8 +1,9 @@
--- Other crates cite Building, Counting, Listing, Loading, Stages, Usable; only this crate cites Commands, Faults, Locating,
+-- Other crates cite Building, Counting, Listing, Loading, Stages, Usable; only this crate cites Commands, Derivations, Faults, Locating,
 -- Predicates, Stopping, Uniting.
 pub mod Building
 pub mod Commands
 pub mod Counting
+pub mod Derivations
 pub mod Faults
 pub mod Listing
 pub mod Loading

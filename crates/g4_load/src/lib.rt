@@ -2,6 +2,7 @@
 // networks of their rules, to parse with or to list.
 #![tactic(auto)]
 
+mod derivations;
 mod fault;
 mod interpreter;
 mod law;
@@ -11,6 +12,7 @@ mod locating;
 mod stop;
 mod whole;
 
+pub use derivations::lists_are_derived_by_name;
 pub use fault::GrammarFault;
 pub use interpreter::{Interpreter, build_interpreter};
 pub use law::{
