@@ -8,14 +8,14 @@ use Rattle.g4_source.specs.Rules.{alternatives_of, parser_rules}
 use Rattle.g4_source.specs.declared.atom.Atom.{Atom}
 use Rattle.g4_source.specs.declared.rule.ParserRule.{ParserRule}
 use Rattle.g4_source.specs.declared.source.Source.{Source}
-use Rattle.g4_grammar.specs.StepRules.{StepRule}
+use Rattle.g4_grammar.specs.StepRules.{AreUnpredicated, StepRule}
 use Rattle.g4_grammar.specs.Steps.{added_rule}
 use Rattle.g4_grammar.specs.Written.{predicate_texts}
 use Rattle.g4_grammar.specs.declared.step.Step.{Step}
 use Rattle.g4_token_file.specs.declared.entry.TokenEntry.{TokenEntry}
 use Rattle.g4_vocab.specs.Numbering.{token_lexers, types_of}
 use Rattle.g4_resolve.specs.Derivations.{DerivesByName, DerivesByNumber}
-use Rattle.g4_resolve.specs.Resolving.{parser_names, place_named, resolved, resolved_rule}
+use Rattle.g4_resolve.specs.Resolving.{RulesAreUntested, parser_names, place_named, resolved, resolved_rule}
 use Rattle.g4_layout.specs.Rules.{rule_number, rules_of}
 use Rattle.g4_derivation.specs.Spelling.{DerivesFrom}
 use Rattle.g4_lexer.specs.declared.lexer.Lexer.{Lexer}
@@ -42,6 +42,11 @@ abbrev pub NumbersKeepNames : Type 0
 NumbersKeepNames = (types : List TokenEntry) (source : Source) (added : Alternatives (Step (List ℕ))) (name word : List ℕ)
     → DerivesByNumber (added ∷ map alternatives_of (resolved types source)) (place_named (parser_names source.rules) name + 1) word
     ↔ DerivesByName types source.rules name word
+
+-- where no parser rule has a predicate, no rule over steps has one
+abbrev pub UntestedAreUnpredicated : Type 0
+UntestedAreUnpredicated = (types : List TokenEntry) (source : Source) → RulesAreUntested source.rules
+    → AreUnpredicated (resolved types source)
 
 -- a name is at the same place among rules that have kept their names
 same_place : (f : ParserRule Atom → StepRule) → ((r : ParserRule Atom) → (f r).name ≡ r.name) → (name : List ℕ)
@@ -109,7 +114,7 @@ interpreter_rules start loaded made h = by_stages (both_give (Lays start loaded.
     by_stages (net, lays, has) = by_lexer net (both_give (Gives (GivesLexer loaded.lexer.0 loaded.lexer.1) of_lexer)
         (λ lexer result. result ≡ Ok (interpreter_of loaded net lexer)) made has)
 
-module _ (keep : NumbersKeepNames) (files : Files) (library : Option (List ℕ)) (name : List ℕ) where
+module _ (files : Files) (library : Option (List ℕ)) (name : List ℕ) where
   -- the rules of a grammar that is loaded
   of_grammar : (f g : List (List ℕ)) (united : United) (loaded : Loaded) → Unifies files library name f (Ok united)
       → Loads files library name g (Ok loaded) → loaded.rules ≡ resolved (types_of united.table united.whole.source) united.whole.source
@@ -124,17 +129,30 @@ module _ (keep : NumbersKeepNames) (files : Files) (library : Option (List ℕ))
           is.made.rules ∙ ap (λ (u : United). resolved (types_of u.table u.whole.source) u.whole.source) same
 
   -- and of an interpreter
-  pub interpreted : (start : List ℕ) (f g : List (List ℕ)) (united : United) (made : Interpreter)
-      → Unifies files library name f (Ok united) → Builds files library name start g (Ok made) → (rule list : List ℕ)
-      → DerivesFrom (eof ∷ []) made.rules rule list ↔ DerivesList united rule list
-  interpreted start f g united made unifies builds rule list =
+  of_interpreter : (start : List ℕ) (f g : List (List ℕ)) (united : United) (made : Interpreter)
+      → Unifies files library name f (Ok united) → Builds files library name start g (Ok made)
+      → made.rules ≡ resolved (types_of united.table united.whole.source) united.whole.source
+  of_interpreter start f g united made unifies builds =
       by_grammar (both_give (Loads files library name g) (λ grammar. OfFile name (FromGrammar start grammar)) made builds)
     where
       by_grammar : (loaded : Loaded) × Loads files library name g (Ok loaded) × OfFile name (FromGrammar start loaded) (Ok made)
-          → DerivesFrom (eof ∷ []) made.rules rule list ↔ DerivesList united rule list
+          → made.rules ≡ resolved (types_of united.table united.whole.source) united.whole.source
       by_grammar (loaded, loads, from) =
-          let rules : made.rules ≡ resolved (types_of united.table united.whole.source) united.whole.source =
           interpreter_rules start loaded made (file_gives name (FromGrammar start loaded) made from)
-          ∙ of_grammar f g united loaded unifies loads in
-          subst (λ (steps : List StepRule). DerivesFrom (eof ∷ []) steps rule list ↔ DerivesList united rule list) (sym rules)
-          (by_name keep united rule list)
+          ∙ of_grammar f g united loaded unifies loads
+
+  -- they derive what the text has
+  pub interpreted : NumbersKeepNames → (start : List ℕ) (f g : List (List ℕ)) (united : United) (made : Interpreter)
+      → Unifies files library name f (Ok united) → Builds files library name start g (Ok made) → (rule list : List ℕ)
+      → DerivesFrom (eof ∷ []) made.rules rule list ↔ DerivesList united rule list
+  interpreted keep start f g united made unifies builds rule list =
+      subst (λ (rules : List StepRule). DerivesFrom (eof ∷ []) rules rule list ↔ DerivesList united rule list)
+      (sym (of_interpreter start f g united made unifies builds)) (by_name keep united rule list)
+
+  -- and have no predicate where the text has none
+  pub unpredicated : UntestedAreUnpredicated → (start : List ℕ) (f g : List (List ℕ)) (united : United) (made : Interpreter)
+      → Unifies files library name f (Ok united) → Builds files library name start g (Ok made)
+      → RulesAreUntested united.whole.source.rules → AreUnpredicated made.rules
+  unpredicated plain start f g united made unifies builds untested =
+      subst AreUnpredicated (sym (of_interpreter start f g united made unifies builds))
+      (plain (types_of united.table united.whole.source) united.whole.source untested)
