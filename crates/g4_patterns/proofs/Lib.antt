@@ -1,0 +1,11 @@
+mod Bindings
+mod Exact
+mod Found
+mod Laws
+mod Printed
+mod Read
+mod Steps
+mod Subtrees
+mod Tags
+mod There
+mod Walks

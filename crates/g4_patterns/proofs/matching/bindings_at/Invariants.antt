@@ -1,0 +1,9 @@
+use Rattle.std.proofs.Common.{◌≡◌, drop}
+use Rattle.g4_patterns.specs.Walking.{before, starting, walk}
+use Rattle.g4_patterns.proofs.matching.bindings_at.Given as goal
+
+abbrev pub invariant-loop-item : goal.invariant-loop-item
+invariant-loop-item l =
+    walk l.ground.items.now l.ground.lasts.now l.ground.tokens.now l.tokens (starting l.node) l.items
+    ≡ before l.bindings.items
+    (walk l.ground.items.now l.ground.lasts.now l.ground.tokens.now l.tokens l.stand (drop l.item-index l.items))
