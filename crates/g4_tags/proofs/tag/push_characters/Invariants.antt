@@ -1,0 +1,6 @@
+use Rattle.std.proofs.Common.{◌≡◌, ◌++◌, drop, string_bytes, encode_utf8_all}
+use Rattle.g4_tags.proofs.tag.push_characters.Given as goal
+
+abbrev pub invariant-loop-c : goal.invariant-loop-c
+invariant-loop-c l = string_bytes l.text ++ encode_utf8_all (drop l.c-index l.characters)
+    ≡ string_bytes l.initial.text ++ encode_utf8_all l.characters
