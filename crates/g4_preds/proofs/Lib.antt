@@ -1,4 +1,5 @@
 pub mod Complete
+pub mod Depths
 pub mod NamedRules
 pub mod Names
 pub mod Newest

@@ -1,11 +1,14 @@
 -- From tokens and nodes to the predicate of a text.
-use Rattle.std.proofs.Common.{◌≡◌, ℕ, List, Err, refl, ap, sym, ◌∙◌, subst}
+use Rattle.std.proofs.Common.{◌≡◌, ◌≤◌, ◌<◌, ℕ, List, Err, refl, ap, sym, ◌∙◌, subst, arith}
+use Rattle.g4_preds.specs.declared.nesting.TheConstants.{MOST_NESTED}
 use Rattle.g4_preds.specs.declared.fault.Fault.{Fault}
 use Rattle.g4_preds.specs.declared.fault.Fault.TheVariants.{Unknown, NoMemory}
 use Rattle.g4_preds.specs.declared.node.Node.{Node}
 use Rattle.g4_preds.specs.declared.token.Token.{Token}
 use Rattle.g4_preds.specs.Answers.{Answers}
 use Rattle.g4_preds.specs.Grammar.{IsOr}
+use Rattle.g4_preds.specs.Nesting.{depth_of_or}
+use Rattle.g4_preds.specs.Trees.{Tree}
 use Rattle.g4_preds.specs.Parsing.{AreNodesOf}
 use Rattle.g4_preds.specs.Postfix.{postfix, tree_of}
 use Rattle.g4_preds.specs.Readings.{IsPredicate}
@@ -20,14 +23,24 @@ tree_is tokens nodes are = ap tree_of are.are ∙ tree_of-postfix are.tree
 pub are_postfix : (tokens : List Token) (nodes : List Node) → AreNodesOf tokens nodes → nodes ≡ postfix (tree_of nodes)
 are_postfix tokens nodes are = are.are ∙ ap postfix (sym (tree_is tokens nodes are))
 
+-- the tokens as a predicate are nested so deep
+abbrev pub HasDepth : List Token → ℕ → Type 0
+HasDepth tokens deep = (tree : Tree) (reads : IsOr tokens tree) → deep ≡ depth_of_or reads
+
 -- the predicate that is read
-pub predicate_is : (text : List ℕ) (tokens : List Token) (nodes : List Node) → AreTokens text tokens → AreNodesOf tokens nodes
-    → IsPredicate text (tree_of nodes)
-predicate_is text tokens nodes cut are = record {
-  tokens = tokens;
-  cut = cut;
-  reads = subst (IsOr tokens) (sym (tree_is tokens nodes are)) are.reads;
-}
+pub predicate_is : (text : List ℕ) (tokens : List Token) (nodes : List Node) (deep : ℕ) → AreTokens text tokens → AreNodesOf tokens nodes
+    → HasDepth tokens deep → deep ≤ MOST_NESTED → IsPredicate text (tree_of nodes)
+predicate_is text tokens nodes deep cut are depth few =
+    let reads : IsOr tokens (tree_of nodes) = subst (IsOr tokens) (sym (tree_is tokens nodes are)) are.reads in
+    record { tokens = tokens; cut = cut; reads = reads; within = subst (λ (n : ℕ). n ≤ MOST_NESTED) (depth (tree_of nodes) reads) few }
+
+-- tokens that are nested too deep
+pub too_deep : (text : List ℕ) (tokens : List Token) (deep : ℕ) → AreTokens text tokens → HasDepth tokens deep → MOST_NESTED < deep
+    → (tree : Tree) → IsPredicate text tree → ⊥
+too_deep text tokens deep cut depth many tree is =
+    let same : deep ≡ depth_of_or is.reads = subst (λ (ts : List Token). HasDepth ts deep)
+    (sym (one_cut text is.tokens tokens is.cut cut)) depth tree is.reads in
+    omega (arith, many, is.within, same)
 
 -- a text that has no tokens
 pub not_cut : (text : List ℕ) (e : Fault) → Answers (AreTokens text) (Err e) → Answers (IsPredicate text) (Err e)

@@ -1,8 +1,10 @@
--- Other crates cite Readings, Trees, Values; only this crate cites Answers, Branches, Grammar, Newest, Parsing, Postfix, Steps, Tests,
--- Tokens, TreeCode.
+-- Other crates cite Readings, Trees, Values; only this crate cites Answers, Branches, Grammar, Levels, Nesting, Newest, Parsing,
+-- Postfix, Steps, Tests, Tokens, TreeCode.
 pub mod Answers
 pub mod Branches
 pub mod Grammar
+pub mod Levels
+pub mod Nesting
 pub mod Newest
 pub mod Parsing
 pub mod Postfix

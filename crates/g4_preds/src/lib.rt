@@ -6,6 +6,7 @@ mod character;
 mod fault;
 mod law;
 mod literal;
+mod nesting;
 mod node;
 mod operators;
 mod parser;
@@ -17,6 +18,7 @@ mod test_reader;
 mod token;
 
 pub use law::one_reading;
+pub use nesting::MOST_NESTED;
 pub use node::{Node, Test};
 pub use predicate::{Predicate, PredicateFault};
 pub use surroundings::Surroundings;

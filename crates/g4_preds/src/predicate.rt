@@ -9,6 +9,7 @@ ghost use Rattle.g4_preds.specs.Values.{value};
 
 use crate::branching::{Branch, branches};
 use crate::fault::Fault;
+use crate::nesting::{MOST_NESTED, depth};
 use crate::node::{Node, Test};
 use crate::parser::parse;
 use crate::scanner::scan;
@@ -20,7 +21,8 @@ use std::marker::Model;
 /// Why a text is no predicate.
 #[derive(Drop)]
 pub enum PredicateFault {
-    /// The grammar of predicates does not give the text of the predicate at this place.
+    /// The grammar of predicates does not give the text of the predicate at this place, or more than 256 of its `(` and `!` are open at
+    /// once.
     Unknown(Place),
     NoMemory,
 }
@@ -68,6 +70,10 @@ fn read_characters(alloc: Global, text: &[char]) -> Result<Predicate, Fault>
 {
     let tokens = scan(alloc, text)?;
     let nodes = parse(alloc, tokens.as_slice())?;
+    let depth = depth(alloc, tokens.as_slice())?;
+    if depth > MOST_NESTED {
+        return Err(Fault::Unknown);
+    }
     let branches = branches(alloc, nodes.as_slice())?;
     Ok(Predicate { nodes, branches })
 }
@@ -76,7 +82,8 @@ impl Predicate {
     /// The predicate that the text between the braces of `{..}?` is. The place is that of the predicate.
     ///
     /// # Errors
-    /// - `Unknown` with the place: the text is no predicate.
+    /// - `Unknown` with the place: the text is no predicate, by the grammar of predicates or since more than 256 of its `(` and `!`
+    ///   are open at once.
     /// - `NoMemory`: memory runs out.
     pub fn read(alloc: Global, text: &str, place: Place) -> Result<Predicate, PredicateFault>
         ensures { IsReading (chars text.now) place result }
