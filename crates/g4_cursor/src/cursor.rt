@@ -1,6 +1,6 @@
 // A cursor over the tokens of a text. Where the next token is not one that may come there, or begins a bad set, reading stops:
 // from then on no token is next and nothing more is taken, so that what reads a part needs no branch for it.
-ghost use Rattle.std.specs.Prelude.{◌≡◌, IfOk, OnOk, length, option_map};
+ghost use Rattle.std.specs.Prelude.{◌≡◌, length, option_map};
 ghost use Rattle.g4_syntax.specs.Notation.{optional, sign, word, name as a_name};
 ghost use Rattle.g4_grammar_tokens.specs.declared.token.Kind.TheVariants as kinds;
 ghost use Rattle.g4_cursor.specs.Progress.{bytes_ahead, halt_of, halted, is_next, reading, rest_of, Moves, Passes, Gives};
@@ -15,9 +15,6 @@ use g4_grammar_tokens::{Kind, Token};
 use g4_source::Name;
 use std::alloc::{AllocError, Global};
 use std::marker::Model;
-
-/// How many brackets may be open at once. Brackets nested deeper exhaust the memory of the stack.
-pub const MOST_OPEN: u32 = 1024;
 
 /// Why reading stops before a token.
 #[derive(Clone, Copy, Debug, PartialEq, Eq)]
@@ -36,8 +33,6 @@ pub struct Cursor<'a> {
     rest: &'a [Token],
     /// Why reading has stopped, if it has.
     halt: Option<Halt>,
-    /// How many brackets are open.
-    open: u32,
 }
 
 impl<'a> Model for Cursor<'a> {
@@ -70,7 +65,6 @@ impl<'a> Cursor<'a> {
             text,
             rest: tokens,
             halt: None,
-            open: 0,
         }
     }
 
@@ -245,28 +239,13 @@ impl<'a> Cursor<'a> {
     }
 
     /// Takes `(`, and says whether it was next.
-    ///
-    /// # Errors
-    /// No memory, or `MOST_OPEN` brackets are open.
-    pub fn open(&mut self) -> Result<bool, AllocError>
-        ensures moves { OnOk result (Passes (sign kinds.LeftParenthesis) self.old self.new) }
-        ensures opened { IfOk result (λ opened. opened ≡ is_next (sign kinds.LeftParenthesis) self.old) }
+    pub fn open(&mut self) -> bool
+        ensures moves { Passes (sign kinds.LeftParenthesis) self.old self.new }
+        ensures opened { result ≡ is_next (sign kinds.LeftParenthesis) self.old }
     {
-        if self.open >= MOST_OPEN {
-            return Err(AllocError);
-        }
-        self.open += 1;
         let opened = self.is_at(Kind::LeftParenthesis);
         self.take(Kind::LeftParenthesis);
-        Ok(opened)
-    }
-
-    /// Takes the `)` of the bracket that was opened last.
-    pub fn close(&mut self)
-        ensures { Passes (sign kinds.RightParenthesis) self.old self.new }
-    {
-        self.open = self.open.saturating_sub(1);
-        self.take(Kind::RightParenthesis);
+        opened
     }
 
     /// How many tokens are left, from the one on before which reading stopped.

@@ -7,7 +7,7 @@ mod passing;
 mod prequel;
 mod spelling;
 
-pub use cursor::{Cursor, Halt, MOST_OPEN, Taken};
+pub use cursor::{Cursor, Halt, Taken};
 pub use options::optional_element_options;
 pub use passing::{
     pass_block_prequel, pass_handlers, pass_modifier, pass_optional_options, pass_rule_prequels,

@@ -1,3 +1,4 @@
+pub mod Cut
 pub mod Full
 pub mod Listing
 pub mod NextSets
@@ -5,4 +6,5 @@ mod Pairs
 pub mod Ranges
 pub mod SetText
 pub mod Suffixes
+pub mod TooDeep
 pub mod Whole

@@ -13,6 +13,7 @@ use Rattle.g4_syntax.specs.Trees.{Tree, both, left, right, HasTree, TextStops}
 use Rattle.g4_cursor.specs.Prequels.{prequels_of}
 use Rattle.g4_cursor.specs.Sets.{HasNoBad, HasFirstBad}
 use Rattle.g4_cursor.specs.Texts.{from, spelled, place_of, token_of, text_of}
+use Rattle.g4_productions.specs.Nesting.{NoneTooDeep, NoneTooDeepBefore, IsNested}
 use Rattle.g4_productions.specs.declared.reader.Stop.{Stop}
 use Rattle.g4_productions.specs.declared.reader.Stop.TheVariants as stops
 use Rattle.g4_productions.specs.Rules.{combined_rules, default_rules, parser_rules, section_rules, sections_of}
@@ -71,15 +72,19 @@ source_of (right (right x)) = parser_grammar_of x
 abbrev pub IsGrammarText : List Spelled → Source → Type 0
 IsGrammarText tokens source = (tree : Tree grammar) × HasTree tokens tree × (source ≡ source_of tree)
 
--- the first bad set to which reading a grammar text comes begins at this place
+-- the first bad set to which reading a grammar text comes begins at this place, and no bracket opens too deep before it
 abbrev pub HasBadSetAt : List Spelled → Place → Type 0
-HasBadSetAt tokens place = (rest : List Spelled) × HasFirstBad grammar tokens rest × (place ≡ place_of rest)
+HasBadSetAt tokens place = (rest : List Spelled) × HasFirstBad grammar tokens rest × NoneTooDeepBefore tokens rest
+    × (place ≡ place_of rest)
 
--- the call gives the grammar that the tokens are, in which no set is bad; or the index of those where reading stops, with no bad
--- set before; or the place of the first bad set; unless memory runs out
+-- the call gives the grammar that the tokens are, in which no set is bad and no bracket opens too deep; or the index of those
+-- where reading stops, the place of the first bad set, or that a bracket opens too deep, whichever comes first; unless memory
+-- runs out
 abbrev pub ReadsText : List ℕ → List Token → Result Source Stop → Type 0
 ReadsText text tokens (Ok source) = IsGrammarText (spelled text tokens) source × HasNoBad grammar (spelled text tokens)
+    × NoneTooDeep (spelled text tokens)
 ReadsText text tokens (Err (stops.At index)) = TextStops (spelled text tokens) (from text tokens index)
-    × HasNoBad grammar (spelled text tokens)
+    × HasNoBad grammar (spelled text tokens) × NoneTooDeepBefore (spelled text tokens) (from text tokens index)
 ReadsText text tokens (Err (stops.BadSet place)) = HasBadSetAt (spelled text tokens) place
+ReadsText text tokens (Err stops.Nesting) = IsNested (spelled text tokens)
 ReadsText text tokens (Err stops.NoMemory) = Unit {0}

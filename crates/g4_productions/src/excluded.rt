@@ -32,7 +32,7 @@ fn add_characters(cursor: &mut Cursor<'_>, ranges: &mut Vec<Range>) -> Result<()
 fn add_brackets(cursor: &mut Cursor<'_>, ranges: &mut Vec<Range>) -> Result<(), AllocError>
     ensures { OnOk result (Moves (λ tree. ranges.new.items ≡ ranges.old.items ++ bracket_ranges tree) cursor.old cursor.new) }
 {
-    if !cursor.open()? {
+    if !cursor.open() {
         return Ok(());
     }
     add_excluded(cursor, ranges)?;
@@ -40,7 +40,7 @@ fn add_brackets(cursor: &mut Cursor<'_>, ranges: &mut Vec<Range>) -> Result<(), 
         cursor.take(Kind::Bar);
         add_excluded(cursor, ranges)?;
     }
-    cursor.close();
+    cursor.take(Kind::RightParenthesis);
     Ok(())
 }
 

@@ -185,10 +185,10 @@ fn alternatives(cursor: &mut Cursor<'_>) -> Result<Vec<Alternative<Atom>>, Alloc
 fn block(cursor: &mut Cursor<'_>) -> Result<Vec<Alternative<Atom>>, AllocError>
     ensures { GivesAs alternatives_in lexer_block_of cursor.old cursor.new result }
 {
-    if !cursor.open()? {
+    if !cursor.open() {
         return Ok(Vec::new(cursor.alloc()));
     }
     let alternatives = alternatives(cursor)?;
-    cursor.close();
+    cursor.take(Kind::RightParenthesis);
     Ok(alternatives)
 }

@@ -7,6 +7,7 @@ mod law;
 mod lexer_element;
 mod lexer_rule;
 mod literal;
+mod nesting;
 mod parser_element;
 mod parser_rule;
 mod reader;
@@ -15,4 +16,5 @@ mod suffix;
 mod token_set;
 
 pub use law::one_grammar;
+pub use nesting::MOST_OPEN;
 pub use reader::{Stop, read_tokens};

@@ -210,11 +210,11 @@ fn alternatives(cursor: &mut Cursor<'_>) -> Result<Vec<Alternative<Atom>>, Alloc
 fn block(cursor: &mut Cursor<'_>) -> Result<Vec<Alternative<Atom>>, AllocError>
     ensures { GivesAs alternatives_in block_of cursor.old cursor.new result }
 {
-    if !cursor.open()? {
+    if !cursor.open() {
         return Ok(Vec::new(cursor.alloc()));
     }
     pass_block_prequel(cursor)?;
     let alternatives = alternatives(cursor)?;
-    cursor.close();
+    cursor.take(Kind::RightParenthesis);
     Ok(alternatives)
 }

@@ -2,9 +2,11 @@
 ghost use Rattle.std.specs.Prelude.{IfOk};
 ghost use Rattle.g4_source.specs.Blocks.{HaveAlternatives};
 ghost use Rattle.g4_cursor.specs.Parts.{AreParts};
+ghost use Rattle.g4_productions.specs.Answering.{ReadsAll, StopsWithin};
 ghost use Rattle.g4_productions.specs.Grammars.{ReadsText};
 
 use crate::grammar::grammar;
+use crate::nesting::first_too_deep;
 use g4_base::Place;
 use g4_cursor::{Cursor, Halt};
 use g4_grammar_tokens::Token;
@@ -18,6 +20,8 @@ pub enum Stop {
     At(usize),
     /// The place of the first token that begins a bad character set.
     BadSet(Place),
+    /// A bracket opens while `MOST_OPEN` are open.
+    Nesting,
     NoMemory,
 }
 
@@ -32,16 +36,10 @@ impl From<AllocError> for Stop {
     }
 }
 
-/// The grammar that the tokens of the text are, or the token before which reading stops.
-///
-/// # Errors
-/// - `At`: the index of the first token with which no grammar text begins, or how many tokens there are where more would have
-///   to follow; no token before it begins a bad character set.
-/// - `BadSet`: the place of the first token that begins a bad character set; some grammar text begins with the tokens before it.
-/// - `NoMemory`: memory runs out, or more than 1,024 brackets are open at once.
-pub fn read_tokens(alloc: Global, text: &str, tokens: &[Token]) -> Result<Source, Stop>
+/// The grammar that the tokens of the text are, or the token before which reading stops, however deep its brackets are nested.
+fn read_all(alloc: Global, text: &str, tokens: &[Token]) -> Result<Source, Stop>
     requires parts { AreParts text.now tokens.now }
-    ensures reads { ReadsText text.now tokens.now result }
+    ensures reads { ReadsAll text.now tokens.now result }
     ensures full { IfOk result HaveAlternatives }
 {
     let mut cursor = Cursor::new(alloc, text, tokens);
@@ -57,5 +55,46 @@ pub fn read_tokens(alloc: Global, text: &str, tokens: &[Token]) -> Result<Source
                 Ok(source)
             }
         }
+    }
+}
+
+/// Why reading does not go on after these tokens, of which the last is the first bracket that opens too deep.
+fn stop_within(alloc: Global, text: &str, tokens: &[Token]) -> Stop
+    requires parts { AreParts text.now tokens.now }
+    ensures { StopsWithin text.now tokens.now result }
+{
+    match read_all(alloc, text, tokens) {
+        Ok(_) => Stop::Nesting,
+        Err(Stop::At(at)) => {
+            if at < tokens.len() {
+                Stop::At(at)
+            } else {
+                Stop::Nesting
+            }
+        }
+        Err(Stop::BadSet(place)) => Stop::BadSet(place),
+        Err(Stop::Nesting) => Stop::Nesting,
+        Err(Stop::NoMemory) => Stop::NoMemory,
+    }
+}
+
+/// The grammar that the tokens of the text are, or the first token before which reading stops.
+///
+/// # Errors
+/// - `At`: the index of the first token with which no grammar text begins, or how many tokens there are where more would have
+///   to follow; no token before it begins a bad character set or opens a bracket too deep.
+/// - `BadSet`: the place of the first token that begins a bad character set; some grammar text begins with the tokens before it,
+///   of which none opens a bracket too deep.
+/// - `Nesting`: a bracket opens while `MOST_OPEN` are open; some grammar text begins with the tokens up to it, and no token before
+///   it begins a bad character set.
+/// - `NoMemory`: memory runs out.
+pub fn read_tokens(alloc: Global, text: &str, tokens: &[Token]) -> Result<Source, Stop>
+    requires parts { AreParts text.now tokens.now }
+    ensures reads { ReadsText text.now tokens.now result }
+    ensures full { IfOk result HaveAlternatives }
+{
+    match first_too_deep(tokens) {
+        None => read_all(alloc, text, tokens),
+        Some(at) => Err(stop_within(alloc, text, &tokens[..=at])),
     }
 }

@@ -38,7 +38,7 @@ fn add_brackets(
 ) -> Result<(), AllocError>
     ensures { OnOk result (Moves (λ tree. references.new.items ≡ references.old.items ++ bracket_references tree) cursor.old cursor.new) }
 {
-    if !cursor.open()? {
+    if !cursor.open() {
         return Ok(());
     }
     add_set(cursor, references)?;
@@ -46,7 +46,7 @@ fn add_brackets(
         cursor.take(Kind::Bar);
         add_set(cursor, references)?;
     }
-    cursor.close();
+    cursor.take(Kind::RightParenthesis);
     Ok(())
 }
 

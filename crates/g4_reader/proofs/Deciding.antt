@@ -14,7 +14,7 @@ use Rattle.g4_cursor.specs.Progress.{Progress, reading, stopped, is_next, at_fau
 use Rattle.g4_cursor.specs.Sets.{content, IsBadContent, IsBadSet, bytes_at, is_no_character, begins_bad_range, BeginsBad, HasNoBad}
 use Rattle.g4_cursor.specs.Texts.{place_of}
 use Rattle.g4_cursor.proofs.Moving as moving
-use Rattle.g4_productions.specs.Grammars.{HasBadSetAt}
+use Rattle.g4_productions.specs.Answering.{BeginsBadAt}
 use Rattle.g4_productions.specs.Members.{set_of}
 use Rattle.g4_productions.proofs.SetText.{bad_set, none_bad}
 
@@ -165,7 +165,7 @@ over_stop (in_part from rest comes) none = over_part from (over_stop comes none)
 
 -- reading comes to no bad set, or to a first one
 abbrev pub GoodOrBad : List Spelled → Type 0
-GoodOrBad tokens = HasNoBad grammar tokens ⊎ ((place : Place) × HasBadSetAt tokens place)
+GoodOrBad tokens = HasNoBad grammar tokens ⊎ ((place : Place) × BeginsBadAt tokens place)
 
 -- so where a cursor can move
 by_move : (tokens : List Spelled) → CanMove grammar tokens → GoodOrBad tokens

@@ -1,5 +1,5 @@
 -- A text has one reading.
-use Rattle.std.proofs.Common.{◌≡◌, ◌≢◌, ◌⊎◌, ℕ, List, [], ◌∷◌, ◌++◌, Result, Ok, Err, inl, inr, refl, sym, ◌∙◌, ap, ap₂, subst, length, arith, append_assoc, append-nil, length-append}
+use Rattle.std.proofs.Common.{◌≡◌, ◌≢◌, ◌≤◌, ◌⊎◌, ℕ, List, [], ◌∷◌, ◌++◌, Result, Ok, Err, inl, inr, refl, sym, ◌∙◌, ap, ap₂, subst, length, arith, append_assoc, append-nil, length-append}
 use Rattle.std.specs.Str.{IsValidUpTo}
 use Rattle.g4_base.specs.declared.place.Place.{Place}
 use Rattle.g4_grammar_tokens.specs.declared.position.Position.{Position}
@@ -12,12 +12,14 @@ use Rattle.g4_syntax.proofs.Unique as trees
 use Rattle.g4_syntax.proofs.Texts.{read_before, comes_after}
 use Rattle.g4_cursor.specs.Texts.{spelled, place_of}
 use Rattle.g4_productions.specs.Grammars.{IsGrammarText, HasBadSetAt, source_of}
+use Rattle.g4_productions.specs.Nesting.{NoneTooDeep, IsNested}
+use Rattle.g4_productions.proofs.TooDeep.{parted, bracket_good}
 use Rattle.g4_reader.proofs.Utf8.{not_both, one_point}
 use Rattle.g4_reader.specs.Answering.{IsReadingOf}
-use Rattle.g4_cursor.specs.Sets.{HasNoBad}
+use Rattle.g4_cursor.specs.Sets.{BeginsBad, HasNoBad}
 use Rattle.g4_reader.specs.Reading.{Fault, fault_at, opened_fault, HasSpelled, IsCut, IsFirstFault, IsReading}
 use Rattle.g4_reader.specs.declared.reader.ReadFault.{ReadFault}
-use Rattle.g4_reader.specs.declared.reader.ReadFault.TheVariants.{NotUtf8, Syntax, BadSet, NoMemory}
+use Rattle.g4_reader.specs.declared.reader.ReadFault.TheVariants.{NotUtf8, Syntax, BadSet, Nesting, NoMemory}
 use Rattle.g4_reader.proofs.Scans as scans
 
 -- tokens are one grammar at most
@@ -83,7 +85,7 @@ same_length (t ∷ first) rest [] after is long = absurd (omega (arith, long, ap
 
 -- tokens have one first bad set
 one_first_bad : (tokens : List Spelled) (p q : Place) → HasBadSetAt tokens p → HasBadSetAt tokens q → p ≡ q
-one_first_bad tokens p q (rest, first, is) (other, later, also) =
+one_first_bad tokens p q (rest, first, shallow, is) (other, later, shallower, also) =
     let long : length rest ≡ length other = omega
     (arith, first.first later.terminal other later.comes later.bad, later.first first.terminal rest first.comes first.bad) in
     let parts : read_before first.comes ++ rest ≡ read_before later.comes ++ other =
@@ -92,7 +94,42 @@ one_first_bad tokens p q (rest, first, is) (other, later, also) =
 
 -- tokens with no bad set have no first one
 no_bad : (tokens : List Spelled) (place : Place) → HasNoBad grammar tokens → HasBadSetAt tokens place → ⊥
-no_bad tokens place good (rest, first, is) = good first.terminal rest first.comes first.bad
+no_bad tokens place good (rest, first, shallow, is) = good first.terminal rest first.comes first.bad
+
+-- where no bracket opens too deep, none stops reading
+no_nesting : (tokens : List Spelled) → NoneTooDeep tokens → IsNested tokens → ⊥
+no_nesting tokens none nested = none nested.front (nested.bracket ∷ nested.others) nested.parts nested.deep
+
+-- a bracket that opens too deep does not stop reading where a fault does before
+no_fault_nested : (bytes : List ℕ) (tokens : List Spelled) (fault : Fault) → IsFirstFault bytes tokens fault → IsNested tokens → ⊥
+no_fault_nested bytes tokens fault is nested =
+    let others = nested.bracket ∷ nested.others in
+    let later : length others ≤ length is.rest = is.shallow nested.front others nested.parts nested.deep in
+    let cut = parted nested.front others is.front is.rest (sym nested.parts ∙ is.cut.parts) later in
+    by_more cut.more cut.rest_is cut.front_is
+  where
+    by_more : (more : List Spelled) → is.rest ≡ more ++ nested.bracket ∷ nested.others → nested.front ≡ is.front ++ more → ⊥
+    by_more [] rest_is front_is =
+        ends_by is.front is.rest is.cut.ends nested.bracket nested.others rest_is
+        (subst (λ (l : List Spelled). BeginsText (l ++ nested.bracket ∷ [])) (front_is ∙ append-nil is.front) nested.begins)
+    by_more (s ∷ more) rest_is front_is =
+        let begins : BeginsText ((is.front ++ s ∷ []) ++ (more ++ nested.bracket ∷ [])) =
+        subst BeginsText (ap (λ (l : List Spelled). l ++ nested.bracket ∷ []) front_is
+        ∙ append_assoc is.front (s ∷ more) (nested.bracket ∷ []) ∙ sym (append_assoc is.front (s ∷ []) (more ++ nested.bracket ∷ [])))
+        nested.begins in
+        ends_by is.front is.rest is.cut.ends s (more ++ nested.bracket ∷ nested.others) rest_is
+        (begins_before (is.front ++ s ∷ []) (more ++ nested.bracket ∷ []) begins)
+
+-- nor where a bad set begins before
+no_bad_nested : (tokens : List Spelled) (place : Place) → HasBadSetAt tokens place → IsNested tokens → ⊥
+no_bad_nested tokens place (rest, found, shallow, is) nested =
+    let others = nested.bracket ∷ nested.others in
+    let later : length others ≤ length rest = shallow nested.front others nested.parts nested.deep in
+    let sooner : length rest ≤ length others = nested.good found.terminal rest found.comes found.bad in
+    let same : rest ≡ others = same_length (read_before found.comes) rest nested.front others
+    (sym (comes_after found.comes) ∙ nested.parts) (omega (arith, later, sooner)) in
+    bracket_good found.terminal nested.bracket nested.others nested.deep.opens
+    (subst (λ (l : List Spelled). BeginsBad found.terminal l) same found.bad)
 
 -- the first fault of tokens is one
 one_fault : (bytes : List ℕ) (tokens : List Spelled) (a b : Fault) → IsFirstFault bytes tokens a → IsFirstFault bytes tokens b → a ≡ b
@@ -116,6 +153,13 @@ one_reading_of bytes tokens (Err (Syntax p c)) (Err (BadSet q)) is also n m = ab
 one_reading_of bytes tokens (Err (BadSet p)) (Ok y) is also n m = absurd (no_bad tokens p also.1 is)
 one_reading_of bytes tokens (Err (BadSet p)) (Err (Syntax q d)) is also n m = absurd (no_bad tokens p also.good is)
 one_reading_of bytes tokens (Err (BadSet p)) (Err (BadSet q)) is also n m = ap (λ r. Err (BadSet r)) (one_first_bad tokens p q is also)
+one_reading_of bytes tokens (Ok x) (Err Nesting) is also n m = absurd (no_nesting tokens is.2 also)
+one_reading_of bytes tokens (Err (Syntax p c)) (Err Nesting) is also n m = absurd (no_fault_nested bytes tokens _ is also)
+one_reading_of bytes tokens (Err (BadSet p)) (Err Nesting) is also n m = absurd (no_bad_nested tokens p is also)
+one_reading_of bytes tokens (Err Nesting) (Ok y) is also n m = absurd (no_nesting tokens also.2 is)
+one_reading_of bytes tokens (Err Nesting) (Err (Syntax q d)) is also n m = absurd (no_fault_nested bytes tokens _ also is)
+one_reading_of bytes tokens (Err Nesting) (Err (BadSet q)) is also n m = absurd (no_bad_nested tokens q also is)
+one_reading_of bytes tokens (Err Nesting) (Err Nesting) is also n m = refl
 one_reading_of bytes tokens (Err (NotUtf8 at)) b is also n m = absurd is
 one_reading_of bytes tokens a (Err (NotUtf8 at)) is also n m = absurd also
 one_reading_of bytes tokens (Err NoMemory) b is also n m = absurd (n refl)
@@ -140,12 +184,13 @@ reading_spelled bytes tokens result has is =
 -- a reading that memory sufficed for
 reading_by : (bytes : List ℕ) (result : Result Source ReadFault) → IsReading bytes result → result ≢ Err NoMemory → ReadingBy bytes result
 unfolding reported
-reading_by bytes (Ok source) is n = reading_spelled bytes is.tokens (Ok source) is.has (is.is, is.good)
+reading_by bytes (Ok source) is n = reading_spelled bytes is.tokens (Ok source) is.has (is.is, is.good, is.shallow)
 reading_by bytes (Err (NotUtf8 at)) valid n = inl (at, valid, refl)
 reading_by bytes (Err (Syntax place characters)) (inl (opened, s, is)) n = inr (inr opened, s, ap reported is)
 reading_by bytes (Err (Syntax place characters)) (inr (tokens, has, first)) n =
     reading_spelled bytes tokens (Err (Syntax place characters)) has first
 reading_by bytes (Err (BadSet place)) (tokens, has, first) n = reading_spelled bytes tokens (Err (BadSet place)) has first
+reading_by bytes (Err Nesting) (tokens, has, nested) n = reading_spelled bytes tokens (Err Nesting) has nested
 reading_by bytes (Err NoMemory) h n = absurd (n refl)
 
 -- bytes have one reading

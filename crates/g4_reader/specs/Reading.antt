@@ -1,6 +1,6 @@
 -- What reading a grammar text answers. To trust `read_grammar`, read this file and those that it uses: the productions and trees
 -- of `g4_syntax`, what trees say in `g4_productions` and `g4_cursor` (`Options`, `Prequels`, `Texts`), which sets are bad
--- (`Sets` of `g4_cursor`), and the tokens of `g4_grammar_tokens`.
+-- (`Sets` of `g4_cursor`), which brackets open too deep (`Nesting` of `g4_productions`), and the tokens of `g4_grammar_tokens`.
 use Rattle.std.specs.Prelude.{◌≡◌, ◌⊎◌, ℕ, List, [], ◌∷◌, ◌++◌, take, drop, Result, Ok, Err, codes}
 use Rattle.std.specs.Str.{IsValidUpTo, chars}
 use Rattle.g4_base.specs.declared.place.Place.{Place}
@@ -15,8 +15,9 @@ use Rattle.g4_syntax.specs.Trees.{BeginsText, Ends}
 use Rattle.g4_cursor.specs.Sets.{HasNoBad}
 use Rattle.g4_cursor.specs.Texts.{spelled}
 use Rattle.g4_productions.specs.Grammars.{IsGrammarText, HasBadSetAt}
+use Rattle.g4_productions.specs.Nesting.{NoneTooDeep, NoneTooDeepBefore, IsNested}
 use Rattle.g4_reader.specs.declared.reader.ReadFault.{ReadFault}
-use Rattle.g4_reader.specs.declared.reader.ReadFault.TheVariants.{NotUtf8, Syntax, BadSet, NoMemory}
+use Rattle.g4_reader.specs.declared.reader.ReadFault.TheVariants.{NotUtf8, Syntax, BadSet, Nesting, NoMemory}
 
 -- the place after the text
 abbrev pub end_of : List ℕ → Place
@@ -42,12 +43,13 @@ pub record HasSpelled (bytes : List ℕ) (tokens : List Spelled) : Type 0 where
   pub has : HasTokens bytes scanned
   pub are : tokens ≡ spelled bytes scanned
 
--- the text's tokens are a grammar text, which is this grammar, and no set of them is bad
+-- the text's tokens are a grammar text, which is this grammar; no set of them is bad, and no bracket opens too deep
 pub record IsGrammar (bytes : List ℕ) (source : Source) : Type 0 where
   pub tokens : List Spelled
   pub has : HasSpelled bytes tokens
   pub is : IsGrammarText tokens source
   pub good : HasNoBad grammar tokens
+  pub shallow : NoneTooDeep tokens
 
 -- the tokens as far as some grammar text begins with them, and the others
 pub record IsCut (tokens front rest : List Spelled) : Type 0 where
@@ -56,12 +58,13 @@ pub record IsCut (tokens front rest : List Spelled) : Type 0 where
   pub ends : Ends front rest
 
 -- the first syntax fault of the tokens: a grammar text begins with those before it, and none goes on with it; reading comes to
--- no bad set before it
+-- no bad set before it, and no bracket opens too deep before it
 pub record IsFirstFault (bytes : List ℕ) (tokens : List Spelled) (fault : Fault) : Type 0 where
   pub front : List Spelled
   pub rest : List Spelled
   pub cut : IsCut tokens front rest
   pub good : HasNoBad grammar tokens
+  pub shallow : NoneTooDeepBefore tokens rest
   pub is : fault ≡ fault_at bytes rest
 
 -- the fault of the text that has no tokens, or the first syntax fault of its tokens
@@ -70,11 +73,12 @@ IsFaultOf bytes fault =
     ((opened : Position) × HasFault bytes opened × (fault ≡ opened_fault bytes opened))
     ⊎ ((tokens : List Spelled) × HasSpelled bytes tokens × IsFirstFault bytes tokens fault)
 
--- the call answers with the grammar that the bytes are, or reports how far they are UTF-8, or reports the text's first fault or
--- bad set, whichever comes first, unless memory runs out
+-- the call answers with the grammar that the bytes are, or reports how far they are UTF-8, or reports the text's first fault, bad
+-- set or bracket that opens too deep, whichever comes first, unless memory runs out
 abbrev pub IsReading : List ℕ → Result Source ReadFault → Type 0
 IsReading bytes (Ok source) = IsGrammar bytes source
 IsReading bytes (Err (NotUtf8 at)) = IsValidUpTo bytes at
 IsReading bytes (Err (Syntax place characters)) = IsFaultOf bytes (record { place = place; characters = characters })
 IsReading bytes (Err (BadSet place)) = (tokens : List Spelled) × HasSpelled bytes tokens × HasBadSetAt tokens place
+IsReading bytes (Err Nesting) = (tokens : List Spelled) × HasSpelled bytes tokens × IsNested tokens
 IsReading bytes (Err NoMemory) = Unit {0}

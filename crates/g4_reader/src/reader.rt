@@ -26,10 +26,12 @@ pub enum ReadFault {
     /// The place of the first character set that is empty, has a range that runs backward or names an unknown property, or of
     /// the first literal of such a range, or of a literal under `~` in a lexer rule that is not one character.
     BadSet(Place),
+    /// A bracket of a rule opens while 256 are open.
+    Nesting,
     NoMemory,
 }
 
-/// The grammar that the tokens are, or the first of their bad sets and syntax faults.
+/// The grammar that the tokens are, or the first of their bad sets, brackets that open too deep and syntax faults.
 fn read_checked(alloc: Global, text: &str, tokens: &[Token]) -> Result<Source, ReadFault>
     requires parts { AreParts text.now tokens.now }
     requires fits { length text.now ≤ MOST_BYTES }
@@ -40,6 +42,7 @@ fn read_checked(alloc: Global, text: &str, tokens: &[Token]) -> Result<Source, R
         Ok(source) => Ok(source),
         Err(Stop::At(at)) => Err(fault_at(alloc, text, tokens, at)),
         Err(Stop::BadSet(place)) => Err(ReadFault::BadSet(place)),
+        Err(Stop::Nesting) => Err(ReadFault::Nesting),
         Err(Stop::NoMemory) => Err(ReadFault::NoMemory),
     }
 }
@@ -60,15 +63,16 @@ fn read_text(alloc: Global, text: &str) -> Result<Source, ReadFault>
     }
 }
 
-/// The grammar that the bytes are, or the first fault of the text's tokens, or else what comes first: a syntax fault, or a
-/// bad set.
+/// The grammar that the bytes are, or the first fault of the text's tokens, or else what comes first: a syntax fault, a bad set,
+/// or a bracket that opens too deep.
 ///
 /// # Errors
 /// - `NotUtf8`: the bytes are no text.
 /// - `Syntax`: a literal, set, arguments, action or comment doesn't close, or a literal or set holds a bad escape; or the
-///   first token with which no grammar text begins comes before all bad sets.
+///   first token with which no grammar text begins comes before all bad sets and all brackets that open too deep.
 /// - `BadSet`: the first set that is empty, has a range that runs backward or names an unknown property comes before; or a
 ///   range between literals that runs backward, or a literal in one or under `~` in a lexer rule that is not one character.
+/// - `Nesting`: the first `(` that opens while 256 are open comes before.
 /// - `NoMemory`: memory runs out.
 pub fn read_grammar(alloc: Global, bytes: &[u8]) -> Result<Source, ReadFault>
     requires fits { length bytes.now ≤ MOST_BYTES }

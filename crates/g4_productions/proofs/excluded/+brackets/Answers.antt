@@ -6,18 +6,18 @@ use Rattle.g4_productions.specs.LexerElements.{excluded_ranges, ranges_between, 
 use Rattle.g4_productions.proofs.Listing.{all_more}
 use Rattle.g4_productions.proofs.excluded.+brackets.Goals as goal
 
-pub add_brackets-returns-then-not-branch : goal.add_brackets-returns-then-not-branch
-add_brackets-returns-then-not-branch t c = ends (sym c.in_ok-open.ensures.opened ∙ c.if-not-branch.true) c.in_ok-open.ensures.moves
+pub add_brackets-returns-then-not-open : goal.add_brackets-returns-then-not-open
+add_brackets-returns-then-not-open t c = ends (sym c.open.ensures.opened ∙ c.if-not-open.true) c.open.ensures.moves
 
 pub add_brackets-add_excluded-requires : goal.add_brackets-add_excluded-requires
 add_brackets-add_excluded-requires t c = omega
-    (arith, fewer (sym c.in_ok-open.ensures.opened ∙ c.if-not-branch.false) c.in_ok-open.ensures.moves)
+    (arith, fewer (sym c.open.ensures.opened ∙ c.if-not-open.false) c.open.ensures.moves)
 
 pub add_brackets-add_excluded-requires-in-loop-cursor : goal.add_brackets-add_excluded-requires-in-loop-cursor
 add_brackets-add_excluded-requires-in-loop-cursor t c =
     omega (
       arith,
-      fewer (sym c.in_ok-open.ensures.opened ∙ c.if-not-branch.false) c.in_ok-open.ensures.moves,
+      fewer (sym c.open.ensures.opened ∙ c.if-not-open.false) c.open.ensures.moves,
       no_more c.in_ok-add_excluded.ensures,
       c.loop-cursor.invariant.less,
       no_more c.take.ensures,
@@ -35,10 +35,10 @@ add_brackets-loop-cursor-smaller t c = fewer_then (sym c.is_at.ensures ∙ c.loo
     c.in_ok-add_excluded-2.ensures
 
 pub add_brackets-returns : goal.add_brackets-returns
-add_brackets-returns t c = upon c.in_ok-open.ensures.moves
+add_brackets-returns t c = upon c.open.ensures.moves
     (upon (two {R = λ tree. c.loop-cursor.ranges.items ≡ c.args.ranges.now.items ++ ranges_between tree} c.in_ok-add_excluded.ensures
     (end_turns c.loop-cursor.invariant (led _ _ _ refl ∙ sym c.is_at.ensures ∙ c.loop-cursor-test.false) (sym (append-nil _)))
-    (λ s ss p q. q ∙ rw p (append_assoc _ (excluded_ranges s) (excluded_after ss)))) (so c.close.ensures (λ closing r sets q opening p. q)))
+    (λ s ss p q. q ∙ rw p (append_assoc _ (excluded_ranges s) (excluded_after ss)))) (so c.take-2.ensures (λ closing r sets q opening p. q)))
 
 pub add_excluded-returns-then-is_at : goal.add_excluded-returns-then-is_at
 add_excluded-returns-then-is_at t c = inside

@@ -128,11 +128,11 @@ alternatives-returns t c = two c.in_ok-first.ensures
     (λ x xs p q. q ∙ rw c.in_ok-alternatives.ensures.items
     (ap (λ (es : Elements Atom). es ∷ lexer_alternatives_after xs) (of_elements c.in_ok-first.first ∙ ap in_order p)))
 
-pub block-returns-then-not-branch : goal.block-returns-then-not-branch
-block-returns-then-not-branch t c = ends (sym c.in_ok-open.ensures.opened ∙ c.if-not-branch.true) c.in_ok-open.ensures.moves
+pub block-returns-then-not-open : goal.block-returns-then-not-open
+block-returns-then-not-open t c = ends (sym c.open.ensures.opened ∙ c.if-not-open.true) c.open.ensures.moves
 
 pub block-alternatives-requires : goal.block-alternatives-requires
-block-alternatives-requires t c = omega (arith, fewer (sym c.in_ok-open.ensures.opened ∙ c.if-not-branch.false) c.in_ok-open.ensures.moves)
+block-alternatives-requires t c = omega (arith, fewer (sym c.open.ensures.opened ∙ c.if-not-open.false) c.open.ensures.moves)
 
 pub block-returns : goal.block-returns
-block-returns t c = upon c.in_ok-open.ensures.moves (upon c.in_ok-alternatives.ensures (so c.close.ensures (λ closing s xs q opening p. q)))
+block-returns t c = upon c.open.ensures.moves (upon c.in_ok-alternatives.ensures (so c.take.ensures (λ closing s xs q opening p. q)))

@@ -143,17 +143,17 @@ alternatives-returns t c = two c.in_ok-first.ensures
     (end_turns c.loop-cursor.invariant (led _ _ _ refl ∙ sym c.is_at.ensures ∙ c.loop-cursor-test.false) (sym (append-nil _)))
     (λ x xs p q. q ∙ rw (c.in_ok-alternatives.ensures.items, p) refl)
 
-pub block-returns-then-not-branch : goal.block-returns-then-not-branch
-block-returns-then-not-branch t c = ends (sym c.in_ok-open.ensures.opened ∙ c.if-not-branch.true) c.in_ok-open.ensures.moves
+pub block-returns-then-not-open : goal.block-returns-then-not-open
+block-returns-then-not-open t c = ends (sym c.open.ensures.opened ∙ c.if-not-open.true) c.open.ensures.moves
 
 pub block-alternatives-requires : goal.block-alternatives-requires
 block-alternatives-requires t c = omega (
   arith,
-  fewer (sym c.in_ok-open.ensures.opened ∙ c.if-not-branch.false) c.in_ok-open.ensures.moves,
+  fewer (sym c.open.ensures.opened ∙ c.if-not-open.false) c.open.ensures.moves,
   no_more c.in_ok-pass_block_prequel.ensures,
 )
 
 pub block-returns : goal.block-returns
-block-returns t c = upon c.in_ok-open.ensures.moves
+block-returns t c = upon c.open.ensures.moves
     (upon c.in_ok-pass_block_prequel.ensures (upon c.in_ok-alternatives.ensures
-    (so c.close.ensures (λ closing s xs q prequel r opening p. q))))
+    (so c.take.ensures (λ closing s xs q prequel r opening p. q))))

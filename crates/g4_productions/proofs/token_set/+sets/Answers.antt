@@ -5,20 +5,20 @@ use Rattle.g4_productions.specs.ParserElements.{references_of, references_betwee
 use Rattle.g4_productions.proofs.Listing.{all_more}
 use Rattle.g4_productions.proofs.token_set.+sets.Goals as goal
 
-pub add_brackets-returns-then-not-branch : goal.add_brackets-returns-then-not-branch
-add_brackets-returns-then-not-branch t c = ends (sym c.in_ok-open.ensures.opened ∙ c.if-not-branch.true) c.in_ok-open.ensures.moves
+pub add_brackets-returns-then-not-open : goal.add_brackets-returns-then-not-open
+add_brackets-returns-then-not-open t c = ends (sym c.open.ensures.opened ∙ c.if-not-open.true) c.open.ensures.moves
 
 pub add_brackets-add_set-requires : goal.add_brackets-add_set-requires
 add_brackets-add_set-requires t c = omega (
   arith,
-  fewer (sym c.in_ok-open.ensures.opened ∙ c.if-not-branch.false) c.in_ok-open.ensures.moves,
+  fewer (sym c.open.ensures.opened ∙ c.if-not-open.false) c.open.ensures.moves,
 )
 
 pub add_brackets-add_set-requires-in-loop-cursor : goal.add_brackets-add_set-requires-in-loop-cursor
 add_brackets-add_set-requires-in-loop-cursor t c =
     omega (
       arith,
-      fewer (sym c.in_ok-open.ensures.opened ∙ c.if-not-branch.false) c.in_ok-open.ensures.moves,
+      fewer (sym c.open.ensures.opened ∙ c.if-not-open.false) c.open.ensures.moves,
       no_more c.in_ok-add_set.ensures,
       c.loop-cursor.invariant.less,
       no_more c.take.ensures,
@@ -35,11 +35,11 @@ pub add_brackets-loop-cursor-smaller : goal.add_brackets-loop-cursor-smaller
 add_brackets-loop-cursor-smaller t c = fewer_then (sym c.is_at.ensures ∙ c.loop-cursor-test.true) c.take.ensures c.in_ok-add_set-2.ensures
 
 pub add_brackets-returns : goal.add_brackets-returns
-add_brackets-returns t c = upon c.in_ok-open.ensures.moves
+add_brackets-returns t c = upon c.open.ensures.moves
     (upon (two {R = λ tree. c.loop-cursor.references.items ≡ c.args.references.now.items ++ references_between tree}
     c.in_ok-add_set.ensures (end_turns c.loop-cursor.invariant (led _ _ _ refl ∙ sym c.is_at.ensures ∙ c.loop-cursor-test.false)
     (sym (append-nil _))) (λ s ss p q. q ∙ rw p (append_assoc _ (references_of s) (references_after ss))))
-    (so c.close.ensures (λ closing r sets q opening p. q)))
+    (so c.take-2.ensures (λ closing r sets q opening p. q)))
 
 pub add_set-returns-then-is_at : goal.add_set-returns-then-is_at
 add_set-returns-then-is_at t c = inside (first (led _ _ _ refl ∙ sym c.is_at.ensures ∙ c.if-is_at.true)

@@ -12,4 +12,4 @@ returns-in-Err-At-clause-reading c =
     let front = spelled text (take c.in-Err-At.at tokens) in
     let rest = from text tokens c.in-Err-At.at in
     stopped_is text (spelled text tokens) front rest c.fault_at.result
-    (cut_from (spelled text tokens) front rest (cut_at text tokens c.in-Err-At.at) stop.0) stop.1 c.fault_at.ensures
+    (cut_from (spelled text tokens) front rest (cut_at text tokens c.in-Err-At.at) stop.0) stop.1 stop.2 c.fault_at.ensures

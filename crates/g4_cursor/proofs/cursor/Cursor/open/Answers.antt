@@ -2,4 +2,4 @@ use Rattle.g4_cursor.proofs.Moving.{passed}
 use Rattle.g4_cursor.proofs.cursor.Cursor.open.Goals as goal
 
 pub returns-clause-moves : goal.returns-clause-moves
-returns-clause-moves c = passed (rw c.self.view_is at c.take.ensures)
+returns-clause-moves c = passed c.take.ensures
