@@ -17,6 +17,7 @@ abbrev pub of_read : ReadFault → Option FileFault
 of_read (reading.NotUtf8 at) = Some (faults.NotUtf8 at)
 of_read (reading.Syntax place characters) = Some (faults.Syntax place characters)
 of_read (reading.BadSet place) = Some (faults.BadSet place)
+of_read reading.Nesting = Some faults.Nesting
 of_read reading.NoMemory = None
 
 -- The grammar in the file of this name, or how reading it stops.

@@ -27,6 +27,7 @@ fn halt_of(alloc: Global, name: &str, fault: ReadFault) -> Halt
             Halt::Stop(Stop::Unreadable(name, FileFault::Syntax(place, characters)))
         }
         ReadFault::BadSet(place) => Halt::Stop(Stop::Unreadable(name, FileFault::BadSet(place))),
+        ReadFault::Nesting => Halt::Stop(Stop::Unreadable(name, FileFault::Nesting)),
         ReadFault::NoMemory => Halt::NoMemory,
     }
 }

@@ -11,6 +11,8 @@ pub enum FileFault {
     Syntax(Place, Sequence<char>),
     /// The place of the first character set that is empty, has a range that runs backward or names an unknown property.
     BadSet(Place),
+    /// A bracket of a rule opens while 256 are open.
+    Nesting,
     /// The line with this number, counted from 1, is no token line, or gives a name or a literal a second number.
     BadTokensLine(u32),
     /// A number of a token is past 4,096.

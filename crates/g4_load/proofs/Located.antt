@@ -18,6 +18,7 @@ module _ (main : List ℕ) (whole : Whole) where
   file_of_other (faults.NotUtf8 at) other file is = is
   file_of_other (faults.Syntax place characters) other file is = is
   file_of_other (faults.BadSet place) other file is = is
+  file_of_other faults.Nesting other file is = is
   file_of_other (faults.RuleTwice rule) other file is = is
   file_of_other (faults.BadImport name) other file is = is
   file_of_other (faults.BadTokensLine line) other file is = is
@@ -41,6 +42,7 @@ module _ (main : List ℕ) (whole : Whole) where
   one_file (faults.NotUtf8 at) f g h k = h ∙ sym k
   one_file (faults.Syntax place characters) f g h k = h ∙ sym k
   one_file (faults.BadSet place) f g h k = h ∙ sym k
+  one_file faults.Nesting f g h k = h ∙ sym k
   one_file (faults.RuleTwice rule) f g h k = h ∙ sym k
   one_file (faults.BadImport name) f g h k = h ∙ sym k
   one_file (faults.BadTokensLine line) f g h k = h ∙ sym k

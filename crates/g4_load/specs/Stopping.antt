@@ -22,14 +22,16 @@ abbrev pub fault_in_file : FileFault → GrammarFault
 fault_in_file (reading.NotUtf8 at) = faults.NotUtf8 at
 fault_in_file (reading.Syntax place characters) = faults.Syntax place characters
 fault_in_file (reading.BadSet place) = faults.BadSet place
+fault_in_file reading.Nesting = faults.Nesting
 fault_in_file (reading.BadTokensLine line) = faults.BadTokensLine line
 fault_in_file reading.Types = faults.Types
 
--- the file in which it is told, of the main one and its own: a limit is told of the main file
+-- the file in which it is told, of the main one and its own: the limit of types is told of the main file
 abbrev pub file_told : List ℕ → List ℕ → FileFault → List ℕ
 file_told main file (reading.NotUtf8 at) = file
 file_told main file (reading.Syntax place characters) = file
 file_told main file (reading.BadSet place) = file
+file_told main file reading.Nesting = file
 file_told main file (reading.BadTokensLine line) = file
 file_told main file reading.Types = main
 

@@ -20,6 +20,8 @@ pub enum GrammarFault {
     Syntax(Place, Sequence<char>),
     /// The place of the first character set that is empty, has a range that runs backward or names an unknown property.
     BadSet(Place),
+    /// A bracket of a rule opens while 256 are open.
+    Nesting,
     /// The name of the first rule whose name an earlier rule of its file has.
     RuleTwice(Text),
     /// The name by which a grammar of a kind is imported that cannot be imported there.

@@ -62,12 +62,13 @@ fn fault_in_file(fault: FileFault) -> GrammarFault
         FileFault::NotUtf8(at) => GrammarFault::NotUtf8(at),
         FileFault::Syntax(place, characters) => GrammarFault::Syntax(place, characters),
         FileFault::BadSet(place) => GrammarFault::BadSet(place),
+        FileFault::Nesting => GrammarFault::Nesting,
         FileFault::BadTokensLine(line) => GrammarFault::BadTokensLine(line),
         FileFault::Types => GrammarFault::Types,
     }
 }
 
-/// The name of the file in which a file's fault is told: a limit is told of the main file.
+/// The name of the file in which a file's fault is told: the limit of types is told of the main file.
 fn file_of<'a>(main: &'a str, file: &'a str, fault: &FileFault) -> &'a str
     ensures { result.now ≡ file_told main.now file.now fault.now }
 {

@@ -117,6 +117,7 @@ abbrev pub fault_line : List ℕ → GrammarFault → Line
 fault_line name (faults.NotUtf8 at) = not_utf8_line name at
 fault_line name (faults.Syntax place characters) = syntax_line name place characters
 fault_line name (faults.BadSet place) = bad_set_line name place
+fault_line name faults.Nesting = limit_line name (codes "nesting 256")
 fault_line name (faults.RuleTwice rule) = twice_line name rule
 fault_line name (faults.BadImport imported) = bad_import_line name imported
 fault_line name (faults.BadTokensLine line) = bad_tokens_line name line

@@ -58,6 +58,7 @@ fn fault_line(alloc: Global, name: &str, fault: &GrammarFault) -> Result<Line, A
             syntax(alloc, name, *place, characters.as_slice())
         }
         GrammarFault::BadSet(place) => bad_set(alloc, name, *place),
+        GrammarFault::Nesting => limit(alloc, name, "nesting 256"),
         GrammarFault::RuleTwice(rule) => twice(alloc, name, rule.as_str()),
         GrammarFault::BadImport(imported) => bad_import(alloc, name, imported.as_str()),
         GrammarFault::BadTokensLine(line) => bad_tokens(alloc, name, *line),
