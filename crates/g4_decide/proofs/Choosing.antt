@@ -1,5 +1,5 @@
 -- What the verdicts and the answers of full stacks mean for the choice.
-use Rattle.std.proofs.Common.{◌≡◌, ◌+◌, ◌<◌, ◌↔◌, ℕ, List, Result, Ok, Err, drop, length, sym, ◌∙◌, ap, subst, arith, length-drop}
+use Rattle.std.proofs.Common.{◌≡◌, ◌+◌, ◌<◌, ◌≤◌, ◌↔◌, ℕ, List, Result, Ok, Err, drop, length, sym, ◌∙◌, ap, subst, arith, length-drop}
 use Rattle.std.proofs.lemmas.List.{length-map}
 use Rattle.g4_guards.specs.Choosing.{Chooses, IsGuarded, by_answer, by_error, by_full, unguarded}
 use Rattle.g4_guards.specs.Tests.{HasTests}
@@ -19,7 +19,11 @@ use Rattle.g4_net.specs.Network.{ParserNetwork, IsFirst}
 use Rattle.g4_net.specs.Prediction.{Full, Path, Sll, answer, chosen, error_at, no_viable, sensitive}
 use Rattle.g4_net.specs.Prediction.{Verdict as Said}
 use Rattle.g4_learned.proofs.Rests.{from_on, word_from}
+use Rattle.g4_full.specs.Ahead.{IsAhead}
+use Rattle.g4_full.specs.declared.full.Ahead.{Ahead}
+use Rattle.g4_full.specs.declared.full.Ahead.TheVariants as aheads
 use Rattle.g4_full.specs.declared.full.Settled.{Settled}
+use Rattle.g4_full.specs.declared.full.Settled.TheVariants as settleds
 use Rattle.g4_predict.specs.declared.verdict.Verdict.{Verdict}
 use Rattle.g4_predict.specs.declared.verdict.Verdict.TheVariants.{Sensitive}
 use Rattle.g4_full.specs.Settled.{choice_of}
@@ -109,17 +113,31 @@ pub said_is : (net : ParserNetwork) (d condition : ℕ) (w : List ℕ) (u v : Ve
     → Sll net d (AllowedAt net d condition) w (verdict_of u) path → Sll net d (AllowedAt net d condition) w (verdict_of v) path
 said_is net d condition w u v path is sll = subst (λ (x : Verdict). Sll net d (AllowedAt net d condition) w (verdict_of x) path) is sll
 
--- what full stacks settled of the tokens from a place on, in the network of the plan
-pub settled_is : (net own : ParserNetwork) (d condition from : ℕ) (returns : List ℕ) (tokens : List Token) (r s : Settled) → net ≡ own
-    → r ≡ s
-    → Full net d (AllowedAt net d condition) (above_bottom returns) (word_of (from_on from tokens)) (choice_of r)
-    → Full own d (AllowedAt own d condition) (above_bottom returns) (drop from (word_of tokens)) (choice_of s)
-settled_is net own d condition from returns tokens r s same is full =
-    subst (λ (x : Settled). Full own d (AllowedAt own d condition) (above_bottom returns) (drop from (word_of tokens)) (choice_of x)) is
-    (subst (λ (w : List ℕ). Full own d (AllowedAt own d condition) (above_bottom returns) w (choice_of r)) (word_from from tokens)
-    (subst (λ (n : ParserNetwork). Full n d (AllowedAt n d condition) (above_bottom returns) (word_of (from_on from tokens))
-    (choice_of r)) same
-    full))
+-- what is settled ahead is what full stacks say
+full_ahead : (net : ParserNetwork) (d : ℕ) (A : ℕ → Type 0) (returns w : List ℕ) (most : ℕ) (s : Settled)
+    → IsAhead net d A returns w most (aheads.Settled s) → Full net d A (above_bottom returns) w (choice_of s)
+full_ahead net d A returns w most (settleds.Chosen i) (full, h) = full
+full_ahead net d A returns w most (settleds.NoViable k) full = full
+
+-- what looking ahead settled of the tokens from a place on
+pub settled_ahead : (net : ParserNetwork) (d condition from : ℕ) (returns : List ℕ) (tokens : List Token) (most : ℕ) (a : Ahead)
+    (r s : Settled) → a ≡ aheads.Settled r → r ≡ s
+    → IsAhead net d (AllowedAt net d condition) returns (word_of (from_on from tokens)) most a
+    → Full net d (AllowedAt net d condition) (above_bottom returns) (drop from (word_of tokens)) (choice_of s)
+settled_ahead net d condition from returns tokens most a r s is same h =
+    subst (λ (w : List ℕ). Full net d (AllowedAt net d condition) (above_bottom returns) w (choice_of s)) (word_from from tokens)
+    (full_ahead net d (AllowedAt net d condition) returns (word_of (from_on from tokens)) most s
+    (subst (λ (x : Ahead). IsAhead net d (AllowedAt net d condition) returns (word_of (from_on from tokens)) most x)
+    (is ∙ ap aheads.Settled same) h))
+
+-- where nothing is settled, as many tokens are there as may be looked at
+pub open_ahead : (net : ParserNetwork) (d condition from : ℕ) (returns : List ℕ) (tokens : List Token) (most : ℕ) (a : Ahead) (i : ℕ)
+    → a ≡ aheads.Open i → IsAhead net d (AllowedAt net d condition) returns (word_of (from_on from tokens)) most a
+    → most ≤ length (drop from (word_of tokens))
+open_ahead net d condition from returns tokens most a i is h =
+    let open_is : IsAhead net d (AllowedAt net d condition) returns (word_of (from_on from tokens)) most (aheads.Open i) =
+    subst (λ (x : Ahead). IsAhead net d (AllowedAt net d condition) returns (word_of (from_on from tokens)) most x) is h in
+    subst (λ (w : List ℕ). most ≤ length w) (word_from from tokens) open_is.0
 
 -- a symbol of the rest is one of the tokens
 pub within_tokens : (from k : ℕ) (tokens : List Token) → from < length tokens → k < length (drop from (word_of tokens))

@@ -1,17 +1,16 @@
 -- What each step on the way of SLL's path leaves.
-use Rattle.std.proofs.Common.{◌≡◌, ◌⊎◌, ◌+◌, ◌<◌, ◌≤◌, inl, inr, ℕ, suc, List, [], ◌∷◌, ◌++◌, Bool, true, false, true≢false, All, Contains, None, Some, drop, get_or, length, map, refl, sym, ◌∙◌, ap, subst, arith, add-one, drop-cons, get_or-drop, length-drop}
+use Rattle.std.proofs.Common.{◌≡◌, ◌+◌, ◌<◌, ◌≤◌, inl, inr, ℕ, List, [], ◌∷◌, ◌++◌, true≢false, All, Contains, None, Some, drop, get_or, length, map, refl, sym, ◌∙◌, ap, subst, arith, add-one, drop-cons, get_or-drop, length-drop}
 use Rattle.std.proofs.lemmas.List.{drop-drop, get_or-map, length-map}
 use Rattle.std.proofs.lemmas.List.Elements.{All-get_or}
 use Rattle.g4_classes.specs.Classes.{IsSymbol}
-use Rattle.g4_decide.specs.Asked.{Asked, KeepsToPath, Told}
+use Rattle.g4_decide.specs.Asked.{Asked, Told}
 use Rattle.g4_decide.specs.Going.{CameTo, IsNext, IsPath, Keeps, LacksRow, Question}
 use Rattle.g4_guards.specs.Levels.{AllowedAt}
-use Rattle.g4_learned.proofs.Paths.{has_code}
 use Rattle.g4_learned.proofs.Rests.{from_on, word_from}
-use Rattle.g4_learned.proofs.Seeing.{IsWay, one_passed, one_start_of, sll_way}
+use Rattle.g4_learned.proofs.Seeing.{one_passed, one_start_of, sll_way}
 use Rattle.g4_learned.proofs.Telling.{ends_says, not_open, starts_so, stopped_reached, stopped_row, stopped_says}
 use Rattle.g4_learned.specs.Automata.{LeadsTo, StartsAt, code_of, verdict_at}
-use Rattle.g4_learned.specs.Stored.{ArePassed, IsPlan, columns_of, stored_entry}
+use Rattle.g4_learned.specs.Stored.{IsPlan, columns_of, stored_entry}
 use Rattle.g4_learned.specs.Tables.{IsStartOf, Tables, column_of}
 use Rattle.g4_learned.specs.Unique.{one_led, one_start}
 use Rattle.g4_learned.specs.Walks.{Begins, Walks}
@@ -22,13 +21,12 @@ use Rattle.g4_net.specs.Lookahead.{Start}
 use Rattle.g4_net.specs.Prediction.{Looked, SllFrom, Verdict}
 use Rattle.g4_predict.specs.Reached.{IsReached}
 use Rattle.g4_store.proofs.Known.{no_more_rows}
-use Rattle.g4_store.proofs.Lists.{among_either, among_left, among_right}
+use Rattle.g4_store.proofs.Lists.{among_either, among_right}
 use Rattle.g4_store.proofs.Seen.{came_within}
 use Rattle.g4_store.proofs.Walking.{came_first, came_next}
 use Rattle.g4_store.specs.declared.automaton.Fact.{Fact}
 use Rattle.g4_store.specs.declared.automaton.Fact.TheVariants.{Cell}
 use Rattle.g4_store.specs.declared.automaton.Fact.TheVariants as fact
-use Rattle.g4_store.specs.declared.automaton.Led.{Led}
 use Rattle.g4_store.specs.declared.automaton.Led.TheVariants.{End, Row}
 use Rattle.g4_store.specs.declared.automaton.Plan.{Plan}
 use Rattle.g4_store.specs.declared.book.Learned.{Learned}
@@ -37,7 +35,7 @@ use Rattle.g4_store.specs.declared.view.View.{View}
 use Rattle.g4_store.specs.Known.{KnowsRows}
 use Rattle.g4_store.specs.Learned.{IsLearned}
 use Rattle.g4_store.specs.Numbers.{Among}
-use Rattle.g4_store.specs.Paths.{HasRow, InKnown, IsIn, Learns, LearnsPart, Within, cells_of}
+use Rattle.g4_store.specs.Paths.{IsIn, Learns, LearnsPart, cells_of}
 use Rattle.g4_store.specs.Walks as walks
 use Rattle.g4_store.specs.Walks.{Came, SawAlso}
 use Rattle.g4_tokens.specs.declared.token.Token.{Token}

@@ -3,3 +3,4 @@ pub mod Choosing
 mod Going
 mod Starting
 mod Steps
+mod Known

@@ -1,5 +1,5 @@
 -- The start of a decision, and what SLL's whole path from there leaves.
-use Rattle.std.proofs.Common.{◌≡◌, ◌+◌, ◌<◌, ◌↔◌, ℕ, List, ◌∷◌, Some, All, Contains, drop, inr, refl, ap, sym, ◌∙◌, subst, arith, length, length-drop}
+use Rattle.std.proofs.Common.{◌≡◌, ◌+◌, ◌<◌, ℕ, List, Some, All, Contains, drop, sym, ◌∙◌, subst, arith, length, length-drop}
 use Rattle.std.proofs.lemmas.List.{drop-drop, length-map}
 use Rattle.std.proofs.lemmas.List.Elements.{All-drop}
 use Rattle.g4_classes.specs.Classes.{IsSymbol}
@@ -13,7 +13,7 @@ use Rattle.g4_learned.specs.declared.walk.Walk.TheVariants.{NoEdge}
 use Rattle.g4_lookahead.proofs.Judging.{row_of_set}
 use Rattle.g4_net.specs.Configurations.{Config, IsRow, wildcard}
 use Rattle.g4_net.specs.Lookahead.{Start}
-use Rattle.g4_net.specs.Network.{ParserNetwork, IsFirst}
+use Rattle.g4_net.specs.Network.{ParserNetwork}
 use Rattle.g4_predict.specs.Verdicts.{IsStartSet}
 use Rattle.g4_store.specs.declared.automaton.Plan.{Plan}
 use Rattle.g4_store.specs.Known.{KnowsRows}

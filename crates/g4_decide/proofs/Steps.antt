@@ -1,7 +1,7 @@
 -- What a step is by what was found, or made and learned.
-use Rattle.std.proofs.Common.{◌≡◌, ◌⊎◌, ◌+◌, ◌<◌, ◌^◌, inl, inr, ℕ, suc, List, [], ◌∷◌, ◌++◌, Contains, drop, map, refl, sym, ◌∙◌, ap, subst, arith}
+use Rattle.std.proofs.Common.{◌≡◌, ◌⊎◌, ◌+◌, inl, inr, ℕ, suc, List, [], ◌∷◌, ◌++◌, Contains, drop, map, refl, sym, ◌∙◌, ap, subst, arith}
 use Rattle.g4_classes.specs.Classes.{IsSymbol}
-use Rattle.g4_decide.proofs.Going.{OnPath, asked_from, asked_learned, came_kept, came_next_to, end_on_path, asked_end, asked_lacking, here_row, here_says, keeps_learned, keeps_on, keeps_saw, lacks, next_symbol, rest, row_on_path}
+use Rattle.g4_decide.proofs.Going.{OnPath, asked_from, asked_learned, came_kept, came_next_to, end_on_path, asked_end, asked_lacking, here_row, here_says, keeps_learned, keeps_saw, lacks, next_symbol, rest, row_on_path}
 use Rattle.g4_decide.proofs.Telling.{learned_asks}
 use Rattle.g4_decide.specs.Asked.{Asked, HaveCodes, Told}
 use Rattle.g4_decide.specs.Going.{CameTo, IsNext, IsPath, IsStep, Keeps, LacksRow, Question}
@@ -12,7 +12,7 @@ use Rattle.g4_learned.proofs.Alike.{goes_on_same, matters_same, next_of_same}
 use Rattle.g4_learned.proofs.Seeing.{one_passed}
 use Rattle.g4_learned.proofs.Paths.{has_code, leads_by, same_as_row}
 use Rattle.g4_learned.specs.Automata.{EndsAs, IsLed, LeadsTo, code_of, verdict_at}
-use Rattle.g4_learned.specs.Stored.{IsPlan, stored_entry}
+use Rattle.g4_learned.specs.Stored.{stored_entry}
 use Rattle.g4_learned.specs.Tables.{Tables, column_of}
 use Rattle.g4_learned.specs.Unique.{one_led}
 use Rattle.g4_learned.specs.Walks.{Finds}

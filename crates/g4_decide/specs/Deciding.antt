@@ -6,7 +6,9 @@ use Rattle.g4_net.specs.Allowed.{Allows}
 use Rattle.g4_net.specs.declared.allowed.Allowed.{Allowed}
 use Rattle.g4_net.specs.Configurations.{above_bottom}
 use Rattle.g4_net.specs.Network.{ParserNetwork, IsFirst}
-use Rattle.g4_net.specs.Prediction.{Choice, chosen, no_viable}
+use Rattle.g4_net.specs.Prediction.{Choice, Path, Sll, chosen, no_viable, sensitive}
+use Rattle.g4_decide.specs.declared.within.Decided.{Decided}
+use Rattle.g4_decide.specs.declared.within.Decided.TheVariants.{Chosen, Far}
 use Rattle.g4_decide.specs.declared.fault.DecideFault.{DecideFault}
 use Rattle.g4_decide.specs.declared.fault.DecideFault.TheVariants.{NoViable, NoMemory}
 
@@ -36,8 +38,24 @@ IsFault net d condition returns w from fault = IsFaultOver net d (AllowedAt net 
 abbrev pub IsChosen : ParserNetwork → ℕ → ℕ → List ℕ → List ℕ → ℕ → Result ℕ DecideFault → Type 0
 IsChosen net d condition returns w from result = IsChosenOver net d (AllowedAt net d condition) returns w from result
 
+-- SLL says that the stack matters at the decision under the condition
+abbrev pub IsSensitive : ParserNetwork → ℕ → ℕ → List ℕ → Type 0
+IsSensitive net d condition w = (k : ℕ) × (path : Path) × Sll net d (AllowedAt net d condition) w (sensitive k) path
+
+-- the same, or that the stack matters
+abbrev pub IsDecided : ParserNetwork → ℕ → ℕ → List ℕ → List ℕ → ℕ → Result Decided DecideFault → Type 0
+IsDecided net d condition returns w from (Ok (Chosen i)) = IsChosen net d condition returns w from (Ok i)
+IsDecided net d condition returns w from (Ok Far) = IsSensitive net d condition w
+IsDecided net d condition returns w from (Err fault) = IsFault net d condition returns w from fault
+
+-- so many symbols settle nothing
+abbrev pub IsFar : Result Decided DecideFault → Type 0
+IsFar (Ok (Chosen i)) = ⊥
+IsFar (Ok Far) = Unit {0}
+IsFar (Err fault) = ⊥
+
 -- the call did not want for memory
-abbrev pub HadMemory : Result ℕ DecideFault → Type 0
+abbrev pub HadMemory : {X : Type 0} → Result X DecideFault → Type 0
 HadMemory (Ok i) = Unit {0}
 HadMemory (Err (NoViable at)) = Unit {0}
 HadMemory (Err NoMemory) = ⊥

@@ -1,21 +1,22 @@
 // The alternative that prediction chooses at a decision under a condition.
-ghost use Rattle.std.specs.Prelude.{◌≡◌, ◌+◌, ◌<◌, ◌^◌, All, Contains, IfOk, List, drop, length, reverse};
+ghost use Rattle.std.specs.Prelude.{◌≡◌, ◌+◌, ◌<◌, ◌≤◌, ◌^◌, All, Contains, IfOk, IfSome, List, None, drop, length, reverse};
 ghost use Rattle.g4_classes.specs.Classes.{IsSymbol};
 ghost use Rattle.g4_decide.specs.Asked.{Asked, HasSeen, KeepsToPath, NeedsNoStack};
-ghost use Rattle.g4_decide.specs.Deciding.{HadMemory, IsChosen};
+ghost use Rattle.g4_decide.specs.Deciding.{HadMemory, IsDecided, IsFar};
+ghost use Rattle.g4_decide.specs.declared.deciding.TheConstants.{NEAR};
+ghost use Rattle.g4_fits.specs.Fitting.{IsLeastThatFits};
 ghost use Rattle.g4_guards.specs.Levels.{AllowedAt, IsCondition, IsDecision};
-ghost use Rattle.g4_net.specs.AddedRule.{IsReady};
-ghost use Rattle.g4_net.specs.Configurations.{Config, above_bottom};
-ghost use Rattle.g4_net.specs.Prediction.{Full, Verdict as Said};
+ghost use Rattle.g4_net.specs.Configurations.{Config};
+ghost use Rattle.g4_net.specs.Prediction.{Verdict as Said};
 ghost use Rattle.g4_net.specs.Proper.{IsProper};
-ghost use Rattle.g4_full.specs.Settled.{choice_of};
 ghost use Rattle.g4_store.specs.declared.automaton.Fact.{Fact};
 ghost use Rattle.g4_tokens.specs.Symbols.{end_of_list};
 ghost use Rattle.g4_tokens.specs.TokenList.{EndsInEnd, word_of};
 
 use crate::asking::ask;
 use crate::fault::DecideFault;
-use g4_full::{Memory, Settled};
+use crate::within::{Decided, decide_within};
+use g4_full::Memory;
 use g4_learned::{DecisionNet, Pass, Store};
 use g4_predict::Verdict;
 use g4_store::steps::Steps;
@@ -25,10 +26,12 @@ use std::alloc::Global;
 use std::sync::Wait;
 use std::sync::ledger::Ledger;
 
-/// The alternative, counted from 1, that prediction chooses at a decision under this condition, with the return
-/// states of the parser's stack, newest last, on the tokens from a place on: SLL's answer, by what is learned, or that of full stacks
-/// where SLL says that the stack matters. It is the least alternative that may be taken with which all of the tokens can be read, if
-/// there is one.
+/// How many symbols full stacks look at before the decision is far.
+const NEAR: usize = 256;
+
+/// What prediction chooses at a decision under this condition, with the return states of the parser's stack, newest last, on the tokens from
+/// a place on: SLL's answer, by what is learned, or where SLL says that the stack matters, the least alternative that may be taken with
+/// which all of the tokens can be read, if it is known, or else that of full stacks, if 256 symbols settle it.
 ///
 /// # Errors
 /// No alternative is viable, or no memory. Where the pass has seen the words of SLL's path and the stack does not matter, it takes no
@@ -41,11 +44,12 @@ pub fn decide<B: Home<DecisionNet>, R: Wait, L: Ledger>(
     memory: &mut Memory<B>,
     decision: u32,
     condition: u32,
+    known: Option<u32>,
     returns: &[u32],
     tokens: &[Token],
     from: u32,
     steps: &mut Steps<L>,
-) -> Result<u32, DecideFault>
+) -> Result<Decided, DecideFault>
     requires decision { IsDecision B.plan.net.net decision }
     requires condition { IsCondition B.plan.net.net decision condition }
     requires proper { IsProper B.plan.net.net decision (reverse returns.now) }
@@ -53,7 +57,10 @@ pub fn decide<B: Home<DecisionNet>, R: Wait, L: Ledger>(
     requires ends { EndsInEnd (word_of tokens.now) }
     requires more { from < length tokens.now }
     requires few { length tokens.now < 2 ^ 32 }
-    ensures chosen { IsChosen B.plan.net.net decision condition (reverse returns.now) (drop from (word_of tokens.now)) from result }
+    requires known { IfSome known (IsLeastThatFits B.plan.net.net decision (AllowedAt B.plan.net.net decision condition)
+        (reverse returns.now) (drop from (word_of tokens.now))) }
+    ensures decided { IsDecided B.plan.net.net decision condition (reverse returns.now) (drop from (word_of tokens.now)) from result }
+    ensures far { IsFar result → (known ≡ None) × (NEAR ≤ length (drop from (word_of tokens.now))) }
     ensures keeps { KeepsToPath B.plan decision condition (drop from (word_of tokens.now)) pass.old pass.new }
     ensures asked { HadMemory result
         → (v : Said) × Asked B.plan decision condition (drop from (word_of tokens.now)) v pass.old pass.new }
@@ -65,14 +72,19 @@ pub fn decide<B: Home<DecisionNet>, R: Wait, L: Ledger>(
     match ask(
         rt, alloc, store, pass, decision, condition, tokens, from, steps,
     )? {
-        Verdict::Answer(alternative) => Ok(alternative),
+        Verdict::Answer(alternative) => Ok(Decided::Chosen(alternative)),
         Verdict::ErrorAt(k) => Err(DecideFault::NoViable { at: from + k }),
-        Verdict::Sensitive(_) => {
-            let rest = &tokens[from as usize..];
-            match memory.settle(alloc, net.net(), decision, condition, returns, rest)? {
-                Settled::Chosen(alternative) => Ok(alternative),
-                Settled::NoViable(k) => Err(DecideFault::NoViable { at: from + k }),
-            }
-        }
+        Verdict::Sensitive(_) => decide_within(
+            alloc,
+            net.net(),
+            memory,
+            decision,
+            condition,
+            known,
+            returns,
+            tokens,
+            from,
+            NEAR,
+        ),
     }
 }

@@ -8,8 +8,10 @@ mod deciding;
 mod fault;
 mod onward;
 mod stepping;
+mod within;
 
 pub use asking::ask;
 pub use by_stack::decide_by_stack;
 pub use deciding::decide;
 pub use fault::DecideFault;
+pub use within::{Decided, decide_far};

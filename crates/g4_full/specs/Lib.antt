@@ -1,4 +1,5 @@
--- Other crates cite Settled; only this crate cites Places, Remembered.
+-- Other crates cite Ahead, Settled; only this crate cites Places, Remembered.
+pub mod Ahead
 pub mod Places
 pub mod Remembered
 pub mod Settled

@@ -1,5 +1,5 @@
 -- What the code settles, and when a set of configurations settles it.
-use Rattle.std.specs.Prelude.{◌≡◌, ◌⊎◌, ℕ, Option, Some, None}
+use Rattle.std.specs.Prelude.{◌≡◌, ◌⊎◌, ℕ}
 use Rattle.g4_lookahead.specs.EndOfList.{GoesOnFull}
 use Rattle.g4_net.specs.Configurations.{Config}
 use Rattle.g4_net.specs.Lookahead.{IsEmpty, IsOnly, Alike, IsLeast}
@@ -23,10 +23,4 @@ SettlesWith D k (settleds.NoViable j) = (j ≡ k) × IsEmpty D
 abbrev pub Shows : (Config → Type 0) → Shown → Type 0
 Shows D Nothing = IsEmpty D
 Shows D (Chosen i) = IsOnly D i ⊎ (Alike D × IsLeast D i)
-Shows D Open = GoesOnFull D
-
--- what is settled where this is shown by the set after symbol k
-abbrev pub settled_by : ℕ → Shown → Option Settled
-settled_by k Nothing = Some (settleds.NoViable k)
-settled_by k (Chosen i) = Some (settleds.Chosen i)
-settled_by k Open = None
+Shows D (Open i) = GoesOnFull D × IsLeast D i

@@ -12,5 +12,5 @@ mod make;
 mod memory;
 mod shown;
 
-pub use full::{Settled, settle_over};
+pub use full::{Ahead, Settled, settle_over};
 pub use memory::Memory;

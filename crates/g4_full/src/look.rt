@@ -1,21 +1,19 @@
 // The way along remembered steps.
 ghost use Rattle.std.specs.Prelude.{◌≡◌, ◌<◌, ◌^◌, ℕ, All, Contains, IfErr, IfOk, MatchResult, Some, length, reverse, slice_get};
+ghost use Rattle.g4_full.specs.Ahead.{IsAhead};
 ghost use Rattle.g4_full.specs.Places.{IsLoweredTo};
 ghost use Rattle.g4_full.specs.Remembered.{CanBeMade, IsNumber, IsSound, SetOf};
-ghost use Rattle.g4_full.specs.Settled.{choice_of};
 ghost use Rattle.g4_full.specs.declared.look.Step.TheVariants.{Return as ByReturn, Start as ByStart, Symbol as BySymbol};
 ghost use Rattle.g4_guards.specs.Levels.{AllowedAt};
 ghost use Rattle.g4_net.specs.AddedRule.{IsReady};
-ghost use Rattle.g4_net.specs.Configurations.{above_bottom};
-ghost use Rattle.g4_net.specs.Prediction.{Full};
 ghost use Rattle.g4_net.specs.Proper.{IsProper};
 ghost use Rattle.g4_stacks.specs.Table.{number_at};
 ghost use Rattle.g4_tokens.specs.Symbols.{end_of_list};
 ghost use Rattle.g4_tokens.specs.TokenList.{word_of};
 
 use crate::frames::{Frame, Frames};
-use crate::full::Settled;
-use crate::shown::settle_by;
+use crate::full::Ahead;
+use crate::shown::come_to;
 use g4_learned::DecisionNet;
 use g4_store::view::Home;
 use g4_tokens::Token;
@@ -112,7 +110,7 @@ impl Frames {
         Ok(Spot { set, below })
     }
 
-    /// What full stacks settle at a decision under this condition, with the return states of the parser's stack,
+    /// What full stacks come to at a decision under this condition within so many symbols, with the return states of the parser's stack,
     /// newest last, on the tokens from it on, as far as steps are remembered.
     ///
     /// # Errors
@@ -123,14 +121,15 @@ impl Frames {
         condition: u32,
         returns: &[u32],
         tokens: &[Token],
-    ) -> Result<Settled, Step>
+        most: usize,
+    ) -> Result<Ahead, Step>
         requires sound { IsSound B.plan.net.net self.now }
         requires ready { IsReady B.plan.net.net }
         requires proper { IsProper B.plan.net.net decision (reverse returns.now) }
         requires ends { Contains (word_of tokens.now) end_of_list }
         requires few { length tokens.now < 2 ^ 32 }
-        ensures settled { IfOk result (λ settled. Full B.plan.net.net decision (AllowedAt B.plan.net.net decision condition)
-            (above_bottom (reverse returns.now)) (word_of tokens.now) (choice_of settled)) }
+        ensures ahead { IfOk result (IsAhead B.plan.net.net decision (AllowedAt B.plan.net.net decision condition) (reverse returns.now)
+            (word_of tokens.now) most) }
         ensures missing { IfErr result (CanBeMade B.plan.net.net self.now) }
     {
         let start = self.start(decision, condition)?;
@@ -139,8 +138,8 @@ impl Frames {
             let next = self.after(spot.set, token.symbol)?;
             spot = self.go_down::<B>(next, spot.below)?;
             let shown = self.frame(spot.set).shown;
-            if let Some(settled) = settle_by(shown, k as u32) {
-                return Ok(settled);
+            if let Some(ahead) = come_to(shown, k as u32, k + 1 >= most) {
+                return Ok(ahead);
             }
         }
         unreachable!()

@@ -1,5 +1,6 @@
 // What full stacks settle, with a memory of the steps between framed sets.
-ghost use Rattle.std.specs.Prelude.{◌≡◌, ◌<◌, ◌^◌, Contains, IfOk, length, reverse};
+ghost use Rattle.std.specs.Prelude.{◌≡◌, ◌<◌, ◌^◌, Contains, IfOk, IfSome, length, reverse};
+ghost use Rattle.g4_full.specs.Ahead.{IsAhead, IsCandidate};
 ghost use Rattle.g4_full.specs.Settled.{choice_of};
 ghost use Rattle.g4_guards.specs.Levels.{AllowedAt};
 ghost use Rattle.g4_net.specs.AddedRule.{IsReady};
@@ -11,7 +12,7 @@ ghost use Rattle.g4_tokens.specs.Symbols.{end_of_list};
 ghost use Rattle.g4_tokens.specs.TokenList.{word_of};
 
 use crate::frames::Frames;
-use crate::full::{Settled, settle_at};
+use crate::full::{Ahead, Settled, look_at};
 use crate::live::Live;
 use g4_learned::DecisionNet;
 use g4_net::ParserNetwork;
@@ -51,6 +52,72 @@ impl<B: Home<DecisionNet>> Memory<B> {
         }
     }
 
+    /// What full stacks come to at a decision under this condition within so many symbols, with the return states of the parser's stack,
+    /// newest last, on the tokens from it on. A question all of whose steps are remembered takes no memory.
+    ///
+    /// # Errors
+    /// No memory.
+    pub fn look(
+        &mut self,
+        alloc: Global,
+        net: &ParserNetwork,
+        decision: u32,
+        condition: u32,
+        returns: &[u32],
+        tokens: &[Token],
+        most: usize,
+    ) -> Result<Ahead, AllocError>
+        requires own { net.now ≡ B.plan.net.net }
+        requires ready { IsReady net.now }
+        requires loops { HasLoops net.now }
+        requires proper { IsProper net.now decision (reverse returns.now) }
+        requires ends { Contains (word_of tokens.now) end_of_list }
+        requires few { length tokens.now < 2 ^ 32 }
+        ensures { IfOk result (IsAhead net.now decision (AllowedAt net.now decision condition) (reverse returns.now) (word_of tokens.now)
+            most) }
+    {
+        let mut live = Live::none();
+        for _ in 0..MOST_MADE {
+            match self
+                .frames
+                .look::<B>(decision, condition, returns, tokens, most)
+            {
+                Ok(ahead) => return Ok(ahead),
+                Err(step) => live = self.frames.make(alloc, net, step, live)?,
+            }
+        }
+        let ahead = look_at(alloc, net, decision, condition, returns, tokens, most)?;
+        Ok(ahead)
+    }
+
+    /// An alternative of a decision under this condition that can be the least that fits the tokens from it on, with the return states of
+    /// the parser's stack, newest last: the least that is left after so many symbols, if one is left.
+    ///
+    /// # Errors
+    /// No memory.
+    pub fn candidate(
+        &mut self,
+        alloc: Global,
+        net: &ParserNetwork,
+        decision: u32,
+        condition: u32,
+        returns: &[u32],
+        tokens: &[Token],
+        most: usize,
+    ) -> Result<Option<u32>, AllocError>
+        requires own { net.now ≡ B.plan.net.net }
+        requires ready { IsReady net.now }
+        requires loops { HasLoops net.now }
+        requires proper { IsProper net.now decision (reverse returns.now) }
+        requires ends { Contains (word_of tokens.now) end_of_list }
+        requires few { length tokens.now < 2 ^ 32 }
+        ensures { IfOk result (λ found. IfSome found (IsCandidate net.now decision (AllowedAt net.now decision condition)
+            (reverse returns.now) (word_of tokens.now))) }
+    {
+        let ahead = self.look(alloc, net, decision, condition, returns, tokens, most)?;
+        Ok(ahead.alternative())
+    }
+
     /// What full stacks settle at a decision under this condition, with the return states of the parser's stack,
     /// newest last, on the tokens from it on. A question all of whose steps are remembered takes no memory.
     ///
@@ -74,14 +141,10 @@ impl<B: Home<DecisionNet>> Memory<B> {
         ensures { IfOk result (λ settled. Full net.now decision (AllowedAt net.now decision condition) (above_bottom (reverse returns.now))
             (word_of tokens.now) (choice_of settled)) }
     {
-        let mut live = Live::none();
-        for _ in 0..MOST_MADE {
-            match self.frames.look::<B>(decision, condition, returns, tokens) {
-                Ok(settled) => return Ok(settled),
-                Err(step) => live = self.frames.make(alloc, net, step, live)?,
-            }
+        let most = tokens.len() + 1;
+        match self.look(alloc, net, decision, condition, returns, tokens, most)? {
+            Ahead::Settled(settled) => Ok(settled),
+            Ahead::Open(_) => unreachable!(),
         }
-        let settled = settle_at(alloc, net, decision, condition, returns, tokens)?;
-        Ok(settled)
     }
 }

@@ -1,9 +1,10 @@
 // What a set of configurations shows of a decision.
 ghost use Rattle.std.specs.Prelude.{◌≡◌, IfOk};
 ghost use Rattle.g4_configs.specs.Configs.{Holds};
-ghost use Rattle.g4_full.specs.Settled.{Shows, settled_by};
+ghost use Rattle.g4_full.specs.Ahead.{ahead_by};
+ghost use Rattle.g4_full.specs.Settled.{Shows};
 
-use crate::full::Settled;
+use crate::full::{Ahead, Settled};
 use g4_configs::Configs;
 use std::alloc::{AllocError, Global};
 
@@ -14,8 +15,8 @@ pub(crate) enum Shown {
     Nothing,
     /// This alternative is chosen.
     Chosen(u32),
-    /// Neither: another symbol is looked at.
-    Open,
+    /// Neither: another symbol is looked at. This is the least alternative that is left.
+    Open(u32),
 }
 
 /// What the set shows.
@@ -31,16 +32,16 @@ pub(crate) fn show(alloc: Global, set: &Configs) -> Result<Shown, AllocError>
     if set.alike(alloc)? {
         return Ok(Shown::Chosen(least));
     }
-    Ok(Shown::Open)
+    Ok(Shown::Open(least))
 }
 
-/// What is settled where this is shown by the set after symbol k, if anything is.
-pub(crate) fn settle_by(shown: Shown, k: u32) -> Option<Settled>
-    ensures { result ≡ settled_by k shown }
+/// What looking ahead comes to where this is shown by the set after symbol k, if it ends there: it does at the last symbol at the latest.
+pub(crate) fn come_to(shown: Shown, k: u32, last: bool) -> Option<Ahead>
+    ensures { result ≡ ahead_by k last shown }
 {
     match shown {
-        Shown::Nothing => Some(Settled::NoViable(k)),
-        Shown::Chosen(alternative) => Some(Settled::Chosen(alternative)),
-        Shown::Open => None,
+        Shown::Nothing => Some(Ahead::Settled(Settled::NoViable(k))),
+        Shown::Chosen(alternative) => Some(Ahead::Settled(Settled::Chosen(alternative))),
+        Shown::Open(least) => { if last { Some(Ahead::Open(least)) } else { None } }
     }
 }

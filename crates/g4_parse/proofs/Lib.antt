@@ -2,6 +2,8 @@ pub mod Fitting
 mod Begun
 mod Passing
 mod Closing
+mod Deciding
+mod Foreseeing
 mod Forests
 mod Grown
 mod Measure
@@ -14,6 +16,7 @@ mod Precedence
 mod Stages
 mod Steps
 mod Teaching
+mod Trying
 mod Turns
 mod Words
 pub mod Accepting

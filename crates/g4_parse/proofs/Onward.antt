@@ -9,7 +9,7 @@ use Rattle.g4_net.specs.declared.network.State.{State}
 use Rattle.g4_net.specs.declared.network.State.TheVariants.{End}
 use Rattle.g4_tokens.specs.declared.token.Token.{Token}
 use Rattle.g4_net.specs.Network.{ParserNetwork, state_at}
-use Rattle.g4_net.specs.AddedRule.{IsReady, IsRunnable}
+use Rattle.g4_net.specs.AddedRule.{IsRunnable}
 use Rattle.g4_store.specs.declared.automaton.Plan.{Plan}
 use Rattle.g4_tokens.specs.TokenList.{word_of, EndsInEnd}
 use Rattle.g4_trees.specs.declared.tree.Item.{Item}
@@ -18,7 +18,9 @@ use Rattle.g4_trees.specs.Kept.{HasGrown}
 use Rattle.g4_parse.specs.declared.parser.ParseFault.{ParseFault}
 use Rattle.g4_parse.specs.declared.parser.ParseFault.TheVariants.{NoViable, Mismatch, FailedPredicate, TooDeep, NoMemory}
 use Rattle.g4_parse.specs.declared.parser.Parser.{Parser}
-use Rattle.g4_run.specs.Running.{Frame, Run, Ending, parsed, not_viable, mismatch, failed_predicate, too_deep, beginning, comes_on, comes_there, deepest, Reaches, StopsBy, Runs, stops, goes, backs, Ends, Values}
+use Rattle.g4_run.specs.Running.{Frame, Run, Ending, parsed, not_viable, mismatch, failed_predicate, too_deep, beginning, comes_on, comes_there, deepest, Goes, Reaches, StopsBy, Runs, stops, goes, backs, Ends, Values}
+use Rattle.g4_parse.specs.declared.trial.Trial.{Trial}
+use Rattle.g4_parse.specs.Foresight.{Foresees}
 use Rattle.g4_parse.specs.Parsing.{IsParse, IsParseFault}
 use Rattle.g4_parse.specs.Standing.{StandsFor, IsFitBy, IsFaultBy, IsTurnBy, IsUnderway, HasEnded, grown}
 use Rattle.g4_parse.specs.Teaching.{HadMemory, HasKept, IsNoRefusal, IsPassed, IsPassedAt, IsTaught}
@@ -66,6 +68,13 @@ module _ (p : Plan Tables) (plan : IsPlan p) (values : Values) where
     taught = taught_begins p plan values word told;
   }
 
+  -- the beginning, with what a trial has found
+  pub begun_foreseen : (word : List ℕ) (told : Told) (q : Parser) (trial : Trial) → EndsInEnd word → StandsFor q beginning
+      → Foresees p.net.net values word trial beginning
+      → (o : Onward p values word told told q) × Foresees p.net.net values word trial o.run
+  unfolding begun_onward
+  begun_foreseen word told q trial ends stands foresees = (begun_onward word told q ends stands, foresees)
+
   -- its state is in range
   pub state_within : (word : List ℕ) (old now : Told) (q : Parser) → Onward p values word old now q → q.state < length p.net.net.states
   state_within word old now q o = let within = o.stage.state_in in omega (arith, o.stands.state)
@@ -103,6 +112,19 @@ module _ (p : Plan Tables) (plan : IsPlan p) (values : Values) where
         kept = kept_then old mid new o.kept kept;
         taught = taught_on p plan values word o.run o.reaches old mid new o.taught kept (taught o.run o.stands) step.0 step.1;
       }
+
+  -- with what a trial has found
+  pub turn_foreseen : (word : List ℕ) (old mid new : Told) (q after : Parser) (trial next : Trial)
+      → (o : Onward p values word old mid q) × Foresees p.net.net values word trial o.run
+      → ((r : Run) → StandsFor q r → IsTurnBy p.net.net values word (state_at p.net.net r.state) r after (Ok tt)) → HasKept mid new
+      → ((r : Run) → StandsFor q r → IsTaught p (IsPassedAt p.net values word r) mid new)
+      → ((r s : Run) → StandsFor q r → Foresees p.net.net values word trial r → Goes p.net.net values word deepest r s
+      → Foresees p.net.net values word next s)
+      → (o : Onward p values word old new after) × Foresees p.net.net values word next o.run
+  unfolding turn_onward
+  turn_foreseen word old mid new q after trial next (o, foresees) turn kept taught leads =
+      let step = turn o.run o.stands in
+      (turn_onward word old mid new q after o turn kept taught, leads o.run step.0 o.stands foresees step.1)
 
   -- and makes the measure fall
   pub turn_falls : (tokens : List Token) (old now : Told) (q after : Parser) → Onward p values (word_of tokens) old now q

@@ -6,11 +6,11 @@ use Rattle.std.proofs.lemmas.List.{drop_more}
 use Rattle.std.proofs.Math.Pow.{pow_mono}
 use Rattle.std.proofs.lemmas.List.Elements.{All-contains_itself, All-weaker, Contains-append_left, Contains-push, Contains-push_cases}
 use Rattle.g4_guards.proofs.Digits.{free_first, free_later, test_first, test_later, tests_free, tests_test}
-use Rattle.g4_guards.specs.Levels.{AllowedAt, HasDigit, IsCondition, MayBegin, any_level, at_level, by_digit, few_digits}
+use Rattle.g4_guards.specs.Levels.{AllowedAt, HasDigit, IsCondition, any_level, at_level, by_digit, few_digits}
 use Rattle.g4_guards.specs.Tests.{HasFewTests, HasNoPredicate, HasTests, is_test, tests_among}
 use Rattle.g4_guards.specs.declared.tests.Tests.TheVariants.{Many}
-use Rattle.g4_net.proofs.Ranks.{IsShort, rank, rank_falls}
-use Rattle.g4_net.specs.Configurations.{Config, above_bottom, config}
+use Rattle.g4_net.proofs.Ranks.{rank, rank_falls}
+use Rattle.g4_net.specs.Configurations.{above_bottom, config}
 use Rattle.g4_net.specs.Leads.{Leads, WellFormed}
 use Rattle.g4_net.specs.Loops.{HasLoops}
 use Rattle.g4_net.specs.Network.{ParserNetwork, state_at, IsFirst}

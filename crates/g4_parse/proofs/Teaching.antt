@@ -4,10 +4,10 @@ use Rattle.std.specs.Prelude.{Bool, true, false}
 use Rattle.g4_decide.specs.Asked.{Asked, KeepsToPath, Told}
 use Rattle.g4_guards.specs.Levels.{AllowSame, IsCondition, IsDecision}
 use Rattle.g4_learned.proofs.Seeing.{one_passed_alike}
-use Rattle.g4_learned.specs.Stored.{ArePassed, IsPlan}
+use Rattle.g4_learned.specs.Stored.{IsPlan}
 use Rattle.g4_learned.specs.Tables.{Tables}
 use Rattle.g4_net.specs.Configurations.{Config}
-use Rattle.g4_net.specs.Network.{ParserNetwork, state_at}
+use Rattle.g4_net.specs.Network.{state_at}
 use Rattle.g4_net.specs.Prediction.{Verdict}
 use Rattle.g4_run.proofs.OneEnding.{goes_once, never_both}
 use Rattle.g4_run.specs.Running.{Comes, comes_on, comes_there, Ending, Goes, Reaches, Run, Stops, beginning, deepest, Values}

@@ -1,5 +1,5 @@
 -- What a turn of the parser is in the run.
-use Rattle.std.proofs.Common.{◌≡◌, ◌+◌, ◌-◌, ◌<◌, ◌≤◌, ◌++◌, ◌∷◌, [], ℕ, ◌↔◌, List, length, map, get_or, take, drop, reverse, Bool, true, false, inl, inr, cond, ◌==◌, refl, sym, ◌∙◌, ap, subst, arith, length-append}
+use Rattle.std.proofs.Common.{◌≡◌, ◌+◌, ◌-◌, ◌<◌, ◌≤◌, ◌++◌, ◌∷◌, [], ℕ, ◌↔◌, List, length, map, get_or, take, drop, reverse, false, cond, ◌==◌, refl, sym, ◌∙◌, ap, subst, arith, length-append}
 use Rattle.std.specs.Prelude.{Contains, Option, Some, Result, Ok, Err, IsErrAnd, ⊤, slice_get}
 use Rattle.std.proofs.lemmas.Option.{slice_get_within, get_or_from_slice_get}
 use Rattle.std.proofs.lemmas.List.Elements.{Contains-get_or}
@@ -247,7 +247,7 @@ moved_to p r s t same h =
 
 -- a fault of deciding that is no want of memory is one of parsing that is none
 pub had_decided : (x : Result ⊤ ParseFault) (fault : DecideFault) → IsErrAnd x (λ e. e ≡ of_decide fault) → HadMemory x
-    → decided.HadMemory (Err fault)
+    → decided.HadMemory {X = ℕ} (Err fault)
 had_decided (Ok done) fault is had = absurd is
 had_decided (Err e) (deciding.NoViable at) is had = tt
 had_decided (Err e) deciding.NoMemory is had = subst IsNoRefusal is had

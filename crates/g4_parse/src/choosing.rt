@@ -1,8 +1,8 @@
 // What prediction chooses at a decision of the run, over the alternatives whose first tests are true there.
-ghost use Rattle.std.specs.Prelude.{◌≡◌, ◌<◌, ◌≤◌, ◌+◌, ◌^◌, ◌↔◌, ℕ, All, List, Some, Contains, IsTrue, IfOk, length, slice_get, suc};
+ghost use Rattle.std.specs.Prelude.{◌≡◌, ◌<◌, ◌≤◌, ◌+◌, ◌^◌, ◌↔◌, ℕ, All, List, Some, Contains, IsTrue, IfOk, drop, length, reverse, slice_get, suc};
 ghost use Rattle.g4_classes.specs.Classes.{IsSymbol};
-ghost use Rattle.g4_decide.specs.Deciding.{HadMemory};
-ghost use Rattle.g4_guards.specs.Levels.{HasDigit};
+ghost use Rattle.g4_decide.specs.Deciding.{HadMemory, IsChosen, IsSensitive};
+ghost use Rattle.g4_guards.specs.Levels.{HasDigit, IsDecision};
 ghost use Rattle.g4_guards.specs.Tests.{HasTests, tests_among};
 ghost use Rattle.g4_guards.specs.declared.tests.Tests.TheVariants.{Many};
 ghost use Rattle.g4_learned.specs.Stored.{IsPlan};
@@ -13,15 +13,17 @@ ghost use Rattle.g4_net.specs.Network.{state_at};
 ghost use Rattle.g4_run.specs.Running.{Passes, Run};
 ghost use Rattle.g4_parse.specs.Deciding.{GivesCondition, IsPredicted};
 ghost use Rattle.g4_parse.specs.Standing.{IsDeciding, StandsFor};
-ghost use Rattle.g4_parse.specs.Teaching.{HasKept, IsPassedAt, IsTaught};
+ghost use Rattle.g4_parse.specs.Foresight.{Foresees, IsForeseen};
+ghost use Rattle.g4_parse.specs.Teaching.{HasKept, IsConditionAt, IsPassedAt, IsTaught};
 ghost use Rattle.g4_parse.specs.Tested.{IsTestedAt, LeadsBehind, PassesAmong};
 ghost use Rattle.g4_tokens.specs.TokenList.{word_of, EndsInEnd};
 
 use crate::parser::Parser;
 use crate::predicates::Predicates;
 use crate::state::state_of;
+use crate::trial::Trial;
 use g4_base::Sequence;
-use g4_decide::{DecideFault, decide, decide_by_stack};
+use g4_decide::{DecideFault, Decided, decide, decide_by_stack, decide_far};
 use g4_full::Memory;
 use g4_guards::{Tests, is_test_at};
 use g4_learned::{DecisionNet, Pass, Store};
@@ -134,7 +136,7 @@ impl Parser {
     }
 
     /// The condition of the decision now, if it has one: the level of the open rule, or the digits of its tests.
-    fn condition<P: Predicates>(
+    pub fn condition<P: Predicates>(
         &self,
         decisions: &DecisionNet,
         predicates: &P,
@@ -177,6 +179,85 @@ impl Parser {
         )
     }
 
+    /// The alternative that prediction chooses now where the stack matters and few symbols do not settle it. A trial of the run may find it;
+    /// one is made for a file.
+    fn chosen_far<B: Home<DecisionNet>, P: Predicates>(
+        &self,
+        alloc: Global,
+        store: &Store<B>,
+        memory: &mut Memory<B>,
+        predicates: &P,
+        condition: u32,
+        tokens: &[Token],
+        trial: &mut Trial,
+    ) -> Result<u32, DecideFault>
+        requires plan { IsPlan B.plan }
+        requires deciding { IsDeciding B.plan.net.net (length tokens.now) self.now }
+        requires decides { IsDecision B.plan.net.net self.now.state }
+        requires condition { (r : Run) → StandsFor self.now r
+            → IsConditionAt B.plan.net.net (P.values predicates.now) (word_of tokens.now) r condition }
+        requires matters { IsSensitive B.plan.net.net self.now.state condition (drop self.now.place (word_of tokens.now)) }
+        requires foreseen { IsForeseen B.plan.net.net (P.values predicates.now) (word_of tokens.now) self.now trial.old }
+        requires ends { EndsInEnd (word_of tokens.now) }
+        requires few { length tokens.now < 2 ^ 32 }
+        ensures chosen { IsChosen B.plan.net.net self.now.state condition (reverse self.now.returns.items)
+            (drop self.now.place (word_of tokens.now)) self.now.place result }
+        ensures foresees { (r : Run) → Foresees B.plan.net.net (P.values predicates.now) (word_of tokens.now) trial.old r
+            → Foresees B.plan.net.net (P.values predicates.now) (word_of tokens.now) trial.new r }
+    {
+        trial.make(alloc, store, memory, predicates, tokens)?;
+        let known = trial.next();
+        let returns = self.returns.as_slice();
+        decide_far(
+            alloc, store, memory, self.state, condition, known, returns, tokens, self.place,
+        )
+    }
+
+    /// The alternative that prediction chooses now under this condition.
+    fn chosen_under<B: Home<DecisionNet>, R: Wait, L: Ledger, P: Predicates>(
+        &self,
+        rt: &R,
+        alloc: Global,
+        store: &Store<B>,
+        pass: &mut Pass<B>,
+        memory: &mut Memory<B>,
+        predicates: &P,
+        condition: u32,
+        tokens: &[Token],
+        trial: &mut Trial,
+        steps: &mut Steps<L>,
+    ) -> Result<u32, DecideFault>
+        requires plan { IsPlan B.plan }
+        requires deciding { IsDeciding B.plan.net.net (length tokens.now) self.now }
+        requires decides { IsDecision B.plan.net.net self.now.state }
+        requires condition { (r : Run) → StandsFor self.now r
+            → IsConditionAt B.plan.net.net (P.values predicates.now) (word_of tokens.now) r condition }
+        requires foreseen { IsForeseen B.plan.net.net (P.values predicates.now) (word_of tokens.now) self.now trial.old }
+        requires symbols { All IsSymbol (word_of tokens.now) }
+        requires ends { EndsInEnd (word_of tokens.now) }
+        requires few { length tokens.now < 2 ^ 32 }
+        ensures predicted { (r : Run) → StandsFor self.now r
+            → IsPredicted B.plan.net.net (P.values predicates.now) (word_of tokens.now) r result }
+        ensures foresees { (r : Run) → Foresees B.plan.net.net (P.values predicates.now) (word_of tokens.now) trial.old r
+            → Foresees B.plan.net.net (P.values predicates.now) (word_of tokens.now) trial.new r }
+        ensures kept { HasKept pass.old pass.new }
+        ensures taught { HadMemory result → (r : Run) → StandsFor self.now r
+            → IsTaught B.plan (IsPassedAt B.plan.net (P.values predicates.now) (word_of tokens.now) r) pass.old pass.new }
+    {
+        let known = trial.next();
+        let returns = self.returns.as_slice();
+        match decide(
+            rt, alloc, store, pass, memory, self.state, condition, known, returns, tokens,
+            self.place, steps,
+        ) {
+            Ok(Decided::Chosen(alternative)) => Ok(alternative),
+            Ok(Decided::Far) => self.chosen_far(
+                alloc, store, memory, predicates, condition, tokens, trial,
+            ),
+            Err(fault) => Err(fault),
+        }
+    }
+
     /// The alternative that prediction chooses now.
     pub fn chosen<B: Home<DecisionNet>, R: Wait, L: Ledger, P: Predicates>(
         &self,
@@ -188,26 +269,28 @@ impl Parser {
         predicates: &P,
         targets: &[u32],
         tokens: &[Token],
+        trial: &mut Trial,
         steps: &mut Steps<L>,
     ) -> Result<u32, DecideFault>
         requires plan { IsPlan B.plan }
         requires deciding { IsDeciding B.plan.net.net (length tokens.now) self.now }
         requires decides { state_at B.plan.net.net self.now.state ≡ Some (Decision targets.now) }
+        requires foreseen { IsForeseen B.plan.net.net (P.values predicates.now) (word_of tokens.now) self.now trial.old }
         requires symbols { All IsSymbol (word_of tokens.now) }
         requires ends { EndsInEnd (word_of tokens.now) }
         requires few { length tokens.now < 2 ^ 32 }
         ensures predicted { (r : Run) → StandsFor self.now r
             → IsPredicted B.plan.net.net (P.values predicates.now) (word_of tokens.now) r result }
+        ensures foresees { (r : Run) → Foresees B.plan.net.net (P.values predicates.now) (word_of tokens.now) trial.old r
+            → Foresees B.plan.net.net (P.values predicates.now) (word_of tokens.now) trial.new r }
         ensures kept { HasKept pass.old pass.new }
         ensures taught { HadMemory result → (r : Run) → StandsFor self.now r
             → IsTaught B.plan (IsPassedAt B.plan.net (P.values predicates.now) (word_of tokens.now) r) pass.old pass.new }
     {
         let decisions = store.net();
-        let returns = self.returns.as_slice();
         match self.condition(decisions, predicates, targets) {
-            Some(condition) => decide(
-                rt, alloc, store, pass, memory, self.state, condition, returns, tokens, self.place,
-                steps,
+            Some(condition) => self.chosen_under(
+                rt, alloc, store, pass, memory, predicates, condition, tokens, trial, steps,
             ),
             None => self.chosen_by_stack(alloc, decisions.net(), predicates, targets, tokens),
         }

@@ -7,6 +7,7 @@ mod parser;
 mod predicates;
 mod runs;
 mod state;
+mod trial;
 
 pub use parser::ParseFault;
 pub use predicates::{NoPredicates, Opened, Predicates};

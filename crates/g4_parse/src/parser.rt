@@ -3,8 +3,10 @@ ghost use Rattle.std.specs.Prelude.{◌≡◌, ◌<◌, ◌*◌, ◌^◌, ◌↔
 ghost use Rattle.g4_classes.specs.Classes.{IsSymbol};
 ghost use Rattle.g4_learned.specs.Stored.{IsPlan};
 ghost use Rattle.g4_net.specs.declared.network.State.TheVariants.{Call, Decision, Edge, End, Level, Predicate};
-ghost use Rattle.g4_net.specs.Network.{ParserNetwork as Net, state_at};
-ghost use Rattle.g4_run.specs.Running.{Run, Values, beginning, with_begun, with_token};
+ghost use Rattle.g4_net.specs.AddedRule.{IsReady};
+ghost use Rattle.g4_net.specs.Network.{IsFirst, ParserNetwork as Net, state_at};
+ghost use Rattle.g4_run.specs.Running.{Goes, Run, Values, beginning, deepest, with_begun, with_token};
+ghost use Rattle.g4_parse.specs.Foresight.{Foresees, IsForeseen, at_target};
 ghost use Rattle.g4_parse.specs.Standing.{StandsFor, IsNewestOf, IsTurnBy, IsDeciding, IsUnderway, HasEnded};
 ghost use Rattle.g4_parse.specs.Teaching.{HadMemory, HasKept, IsPassedAt, IsTaught};
 ghost use Rattle.g4_tokens.specs.TokenList.{word_of, EndsInEnd};
@@ -13,6 +15,7 @@ ghost use Rattle.g4_trees.specs.Trees.{Forest, items_of_all};
 
 use crate::predicates::{Opened, Predicates};
 use crate::state::{begun, state_of};
+use crate::trial::Trial;
 use g4_full::Memory;
 use g4_learned::{DecisionNet, Pass, Store};
 use g4_net::{ParserNetwork, State};
@@ -144,6 +147,19 @@ impl Parser {
         self.tree.set_alternative(alternative);
     }
 
+    /// Goes to an alternative of the decision.
+    pub(crate) fn go_to(&mut self, net: &ParserNetwork, targets: &[u32], alternative: u32)
+        requires ready { IsReady net.now }
+        requires decides { state_at net.now self.old.state ≡ Some (Decision targets.now) }
+        requires first { (t : ℕ) × IsFirst net.now self.old.state alternative t }
+        ensures { (r : Run) (t : ℕ) → StandsFor self.old r → IsFirst net.now r.state alternative t
+            → StandsFor self.new (at_target net.now r t) }
+    {
+        let target = targets[alternative as usize - 1];
+        self.begin_alternative(begun(net, target));
+        self.state = target;
+    }
+
     /// Goes to the alternative that prediction chooses.
     fn choose<B: Home<DecisionNet>, R: Wait, L: Ledger, P: Predicates>(
         &mut self,
@@ -156,27 +172,32 @@ impl Parser {
         predicates: &P,
         targets: &[u32],
         tokens: &[Token],
+        trial: &mut Trial,
         steps: &mut Steps<L>,
     ) -> Result<(), ParseFault>
         requires own { net.now ≡ B.plan.net.net }
         requires plan { IsPlan B.plan }
         requires deciding { IsDeciding net.now (length tokens.now) self.old }
         requires decides { state_at net.now self.old.state ≡ Some (Decision targets.now) }
+        requires foreseen { IsForeseen net.now (P.values predicates.now) (word_of tokens.now) self.old trial.old }
         requires symbols { All IsSymbol (word_of tokens.now) }
         requires ends { EndsInEnd (word_of tokens.now) }
         requires few { length tokens.now < 2 ^ 32 }
         ensures turns { (r : Run) → StandsFor self.old r
             → IsTurnBy net.now (P.values predicates.now) (word_of tokens.now) (Some (Decision targets.now)) r self.new result }
+        ensures foresees { OnOk result ((r s : Run) → StandsFor self.old r
+            → Foresees net.now (P.values predicates.now) (word_of tokens.now) trial.old r
+            → Goes net.now (P.values predicates.now) (word_of tokens.now) deepest r s
+            → Foresees net.now (P.values predicates.now) (word_of tokens.now) trial.new s) }
         ensures kept { HasKept pass.old pass.new }
         ensures taught { HadMemory result → (r : Run) → StandsFor self.old r
             → IsTaught B.plan (IsPassedAt B.plan.net (P.values predicates.now) (word_of tokens.now) r) pass.old pass.new }
     {
         let alternative = self.chosen(
-            rt, alloc, store, pass, memory, predicates, targets, tokens, steps,
+            rt, alloc, store, pass, memory, predicates, targets, tokens, trial, steps,
         )?;
-        let target = targets[alternative as usize - 1];
-        self.begin_alternative(begun(net, target));
-        self.state = target;
+        trial.take_decision();
+        self.go_to(net, targets, alternative);
         Ok(())
     }
 
@@ -235,7 +256,7 @@ impl Parser {
     }
 
     /// One step of the run, at a state that is no decision.
-    fn step<P: Predicates>(
+    pub(crate) fn step<P: Predicates>(
         &mut self,
         net: &ParserNetwork,
         predicates: &P,
@@ -280,17 +301,23 @@ impl Parser {
         memory: &mut Memory<B>,
         predicates: &P,
         tokens: &[Token],
+        trial: &mut Trial,
         steps: &mut Steps<L>,
     ) -> Result<(), ParseFault>
         requires own { net.now ≡ B.plan.net.net }
         requires plan { IsPlan B.plan }
         requires underway { IsUnderway net.now (length tokens.now) self.old }
         requires goes_on { HasEnded net.now self.old → ⊥ }
+        requires foreseen { IsForeseen net.now (P.values predicates.now) (word_of tokens.now) self.old trial.old }
         requires symbols { All IsSymbol (word_of tokens.now) }
         requires ends { EndsInEnd (word_of tokens.now) }
         requires few { length tokens.now < 2 ^ 32 }
         ensures turns { (r : Run) → StandsFor self.old r
             → IsTurnBy net.now (P.values predicates.now) (word_of tokens.now) (state_at net.now r.state) r self.new result }
+        ensures foresees { OnOk result ((r s : Run) → StandsFor self.old r
+            → Foresees net.now (P.values predicates.now) (word_of tokens.now) trial.old r
+            → Goes net.now (P.values predicates.now) (word_of tokens.now) deepest r s
+            → Foresees net.now (P.values predicates.now) (word_of tokens.now) trial.new s) }
         ensures kept { HasKept pass.old pass.new }
         ensures taught { HadMemory result → (r : Run) → StandsFor self.old r
             → IsTaught B.plan (IsPassedAt B.plan.net (P.values predicates.now) (word_of tokens.now) r) pass.old pass.new }
@@ -298,7 +325,7 @@ impl Parser {
         if let State::Decision(targets) = state_of(net, self.state) {
             let targets = targets.as_slice();
             return self.choose(
-                rt, alloc, net, store, pass, memory, predicates, targets, tokens, steps,
+                rt, alloc, net, store, pass, memory, predicates, targets, tokens, trial, steps,
             );
         }
         self.step(net, predicates, tokens)

@@ -13,6 +13,7 @@ ghost use Rattle.g4_tree_check.specs.TreesOf.{IsTreeOf};
 
 use crate::parser::{ParseFault, Parser};
 use crate::predicates::Predicates;
+use crate::trial::Trial;
 use g4_full::Memory;
 use g4_learned::{DecisionNet, Pass, Store};
 use g4_net::ParserNetwork;
@@ -47,9 +48,10 @@ fn run<B: Home<DecisionNet>, R: Wait, L: Ledger, P: Predicates>(
         (word_of tokens.now)) pass.old pass.new }
 {
     let mut parser = Parser::new(alloc);
+    let mut trial = Trial::new();
     'run: while !parser.has_ended(net) {
         parser.turn(
-            rt, alloc, net, store, pass, memory, predicates, tokens, steps,
+            rt, alloc, net, store, pass, memory, predicates, tokens, &mut trial, steps,
         )?;
     }
     Ok(parser.finish(alloc)?)

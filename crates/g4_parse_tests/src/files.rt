@@ -467,3 +467,107 @@ fn more_sets_than_are_remembered(rt: HostRuntime) -> Result<(), Fail> {
     assert!(rt; found.as_str().starts_with(wanted.as_str()));
     Ok(())
 }
+
+/// Adds this so many times.
+fn push_times(text: &mut String, part: &str, times: usize) -> Result<(), Fail> {
+    for _ in 0..times {
+        text.push_str(part)?;
+    }
+    Ok(())
+}
+
+/// A text that begins and ends with these, with so many of the parts between them.
+fn repeated(
+    alloc: Global,
+    first: &str,
+    part: &str,
+    times: usize,
+    last: &str,
+) -> Result<String, Fail> {
+    let mut text = String::new(alloc);
+    text.push_str(first)?;
+    push_times(&mut text, part, times)?;
+    text.push_str(last)?;
+    Ok(text)
+}
+
+/// Products in a sum.
+const CHAIN: &str = "grammar X; s : e ; e : e '*' e | e '+' e | 'a' ;";
+
+/// The tree of a sum of so many products, which are added to one letter.
+fn chain_tree(alloc: Global, products: usize) -> Result<String, Fail> {
+    let mut wanted = String::new(alloc);
+    wanted.push_str("(s ")?;
+    push_times(&mut wanted, "(e ", products)?;
+    wanted.push_str("(e a)")?;
+    push_times(&mut wanted, " + (e (e a) * (e a)))", products)?;
+    wanted.push_str("); ")?;
+    Ok(wanted)
+}
+
+#[test]
+fn a_chain_of_operators(rt: HostRuntime) -> Result<(), Fail> {
+    let alloc = rt.alloc();
+    let text = repeated(alloc, "a", "+a*a", 1_000, "")?;
+    let wanted = chain_tree(alloc, 1_000)?;
+    let found = parsed_with(&rt, alloc, CHAIN, 1_024, text.as_str())?;
+    assert!(rt; found.as_str().starts_with(wanted.as_str()));
+    Ok(())
+}
+
+#[test]
+fn a_chain_with_a_fault_at_its_end(rt: HostRuntime) -> Result<(), Fail> {
+    let alloc = rt.alloc();
+    let text = repeated(alloc, "a", "+a*a", 100, "+")?;
+    let found = parsed_with(&rt, alloc, CHAIN, 1_024, text.as_str())?;
+    assert!(rt; found.as_str().starts_with("no viable alternative at 402; "));
+    Ok(())
+}
+
+/// The same question as before the end of the first text comes in the second, in which nothing is settled by a trial.
+#[test]
+fn a_chain_before_and_after_a_fault(rt: HostRuntime) -> Result<(), Fail> {
+    let alloc = rt.alloc();
+    let mut texts = repeated(alloc, "a", "+a*a", 100, "+|")?;
+    let chain = repeated(alloc, "a", "+a*a", 100, "")?;
+    texts.push_str(chain.as_str())?;
+    let mut wanted = String::new(alloc);
+    wanted.push_str("no viable alternative at 402; ")?;
+    let tree = chain_tree(alloc, 100)?;
+    wanted.push_str(tree.as_str())?;
+    let found = parsed_with(&rt, alloc, CHAIN, 1_024, texts.as_str())?;
+    assert!(rt; found.as_str().starts_with(wanted.as_str()));
+    Ok(())
+}
+
+#[test]
+fn dangling_else(rt: HostRuntime) -> Result<(), Fail> {
+    let alloc = rt.alloc();
+    let mut text = repeated(alloc, "", "if", 200, "b")?;
+    push_times(&mut text, "elsec", 200)?;
+    let mut wanted = repeated(alloc, "", "(s if ", 200, "(s b)")?;
+    push_times(&mut wanted, " else (s c))", 200)?;
+    wanted.push_str("; ")?;
+    let grammar = "grammar X; s : 'if' s ('else' s)? | 'b' | 'c' ;";
+    let found = parsed_with(&rt, alloc, grammar, 1_024, text.as_str())?;
+    assert!(rt; found.as_str().starts_with(wanted.as_str()));
+    Ok(())
+}
+
+#[test]
+fn operands_side_by_side(rt: HostRuntime) -> Result<(), Fail> {
+    let alloc = rt.alloc();
+    let text = repeated(alloc, "a", "a", 500, "")?;
+    let mut wanted = repeated(alloc, "", "(s ", 500, "(s a)")?;
+    push_times(&mut wanted, " (s a))", 500)?;
+    wanted.push_str("; ")?;
+    let found = parsed_with(
+        &rt,
+        alloc,
+        "grammar X; s : s s | 'a' ;",
+        1_024,
+        text.as_str(),
+    )?;
+    assert!(rt; found.as_str().starts_with(wanted.as_str()));
+    Ok(())
+}

@@ -8,3 +8,4 @@ pub mod Allowing
 pub mod Levelled
 pub mod Derived
 mod Failing
+pub mod Trying

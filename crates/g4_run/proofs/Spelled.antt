@@ -26,7 +26,7 @@ module _ (net : ParserNetwork) (values : Values) (word : List ℕ) where
       (subst (λ (p : ℕ). SpellsEach net (p ∷ backs s.frames) (drop s.place word) z) a h))
 
   -- an edge that passes
-  back_passed : (r s : Run) (o : Option (State (List ℕ))) (t : ℕ) (z : List ℕ) → state_at net r.state ≡ o → PassesBy o t → s.state ≡ t →
+  pub back_passed : (r s : Run) (o : Option (State (List ℕ))) (t : ℕ) (z : List ℕ) → state_at net r.state ≡ o → PassesBy o t → s.state ≡ t →
       s.place ≡ r.place → backs s.frames ≡ backs r.frames → SpellsOn s z → SpellsOn r z
   back_passed r s o t z is m a b c h =
       let g = placed s t r.place (backs r.frames) z a b c h in
@@ -46,7 +46,7 @@ module _ (net : ParserNetwork) (values : Values) (word : List ℕ) where
 
   module _ (limit : ℕ) where
     -- what is spelled after a step is spelled before it, with the symbol that it took
-    back_by : (r s : Run) (o : Option (State (List ℕ))) (z : List ℕ) → state_at net r.state ≡ o → GoesBy net values word limit o r s →
+    pub back_by : (r s : Run) (o : Option (State (List ℕ))) (z : List ℕ) → state_at net r.state ≡ o → GoesBy net values word limit o r s →
         SpellsOn s z → SpellsOn r z
     back_by r s None z is g h = absurd g
     back_by r s (Some (Decision targets)) z is (i, t, says, first, e) h =

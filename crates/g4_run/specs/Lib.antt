@@ -1,3 +1,4 @@
--- Other crates cite Running; only this crate's laws cite Failing.
+-- Other crates cite Running, Trials; only this crate's laws cite Failing.
 pub mod Failing
 pub mod Running
+pub mod Trials

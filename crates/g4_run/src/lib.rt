@@ -4,4 +4,7 @@
 
 mod law;
 
-pub use law::{derived_words_have_trees, one_ending, predicates_alone_fail, trees_are_derived};
+pub use law::{
+    derived_words_have_trees, one_ending, predicates_alone_fail, trees_are_derived,
+    trials_go_as_runs,
+};

@@ -1,4 +1,4 @@
-use Rattle.std.proofs.Common.{◌+◌, ◌∙◌, drop, length, refl}
+use Rattle.std.proofs.Common.{drop, refl}
 use Rattle.g4_learned.specs.declared.walk.Walk.TheVariants.{Ended, NoEdge, NoStart}
 use Rattle.g4_predict.specs.Paths.{verdict_of}
 use Rattle.g4_tokens.specs.TokenList.{word_of}

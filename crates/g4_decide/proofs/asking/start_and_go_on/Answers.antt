@@ -1,4 +1,4 @@
-use Rattle.std.proofs.Common.{◌≡◌, ◌∷◌, [], ℕ, drop, refl, sym, ◌∙◌, ap, subst}
+use Rattle.std.proofs.Common.{◌≡◌, ◌∷◌, [], refl, sym, ◌∙◌, ap, subst}
 use Rattle.g4_guards.specs.Levels.{AllowedAt}
 use Rattle.g4_learned.specs.Tables.{Tables}
 use Rattle.g4_net.specs.AddedRule.{IsReady}
@@ -9,10 +9,7 @@ use Rattle.g4_net.specs.Network.{ParserNetwork}
 use Rattle.g4_predict.specs.Paths.{verdict_of}
 use Rattle.g4_store.specs.declared.automaton.Fact.TheVariants as fact
 use Rattle.g4_store.specs.declared.book.Learned.{Learned}
-use Rattle.g4_store.specs.declared.book.Learned.TheVariants as learned
 use Rattle.g4_store.specs.Learned.{IsLearned}
-use Rattle.g4_tokens.specs.TokenList.{word_of}
-use Rattle.g4_decide.specs.Asked.{Told}
 use Rattle.g4_decide.proofs.Going.{asked_from, asked_lacking, keeps_learned, keeps_on, keeps_same, lacks, start_on_path, start_read}
 use Rattle.g4_decide.proofs.Starting.{asked_here, began_at, began_keeps, rest_first}
 use Rattle.g4_decide.proofs.asking.start_and_go_on.Goals as goal

@@ -1,11 +1,10 @@
-use Rattle.std.proofs.Common.{◌≡◌, ◌+◌, ◌<◌, ℕ, List, All, Contains, drop, length, refl, sym, ◌∙◌, ap, subst, arith, length-drop}
+use Rattle.std.proofs.Common.{◌≡◌, ◌+◌, ℕ, List, All, Contains, drop, length, refl, sym, ◌∙◌, ap, subst, arith, length-drop}
 use Rattle.std.proofs.lemmas.List.{length-map}
 use Rattle.std.proofs.lemmas.List.Elements.{All-drop}
 use Rattle.g4_classes.specs.Classes.{IsSymbol}
 use Rattle.g4_decide.specs.Asked.{HaveCodes}
-use Rattle.g4_decide.specs.Going.{CameTo, IsHere, IsStep, Keeps}
+use Rattle.g4_decide.specs.Going.{CameTo, IsHere, IsStep}
 use Rattle.g4_decide.specs.declared.stepping.Step.{Step}
-use Rattle.g4_learned.proofs.Rests.{from_on}
 use Rattle.g4_net.specs.Prediction.{SllFrom}
 use Rattle.g4_predict.specs.Paths.{verdict_of}
 use Rattle.g4_tokens.specs.declared.token.Token.{Token}

@@ -1,4 +1,4 @@
-use Rattle.std.proofs.Common.{◌+◌, ◌∷◌, [], inl, refl, ◌∙◌, subst}
+use Rattle.std.proofs.Common.{◌∷◌, [], inl, refl, ◌∙◌, subst}
 use Rattle.g4_configs.specs.Configs.{Holds}
 use Rattle.g4_learned.specs.declared.target.Target.TheVariants.{Row}
 use Rattle.g4_learned.specs.Tables.{column_of}

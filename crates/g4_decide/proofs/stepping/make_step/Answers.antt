@@ -1,9 +1,7 @@
-use Rattle.std.proofs.Common.{◌≡◌, ◌+◌, ◌∷◌, [], Contains, length, sym, ◌∙◌, ap, subst, refl}
+use Rattle.std.proofs.Common.{◌≡◌, Contains, length, sym, ◌∙◌, ap, subst}
 use Rattle.g4_configs.specs.Configs.{Holds}
-use Rattle.g4_learned.specs.Automata.{code_of}
-use Rattle.g4_learned.specs.Tables.{Tables, column_of}
-use Rattle.g4_net.specs.AddedRule.{IsReady}
-use Rattle.g4_net.specs.Configurations.{Config, IsWithin}
+use Rattle.g4_learned.specs.Tables.{Tables}
+use Rattle.g4_net.specs.Configurations.{IsWithin}
 use Rattle.g4_net.specs.declared.network.TheConstants.{MOST_STATES}
 use Rattle.std.specs.Prelude.{◌≤◌}
 use Rattle.g4_net.specs.Leads.{WellFormed}
@@ -16,7 +14,7 @@ use Rattle.g4_predict.specs.Verdicts.{IsSeen}
 use Rattle.g4_decide.proofs.Going.{asked_from, came_kept, here_reached, here_row, keeps_on, keeps_same, next_symbol}
 use Rattle.g4_decide.proofs.Steps.{ends_led, made_end, made_end_keeps, seen_here}
 use Rattle.g4_decide.specs.Asked.{Told}
-use Rattle.g4_decide.specs.Going.{IsStep, Keeps}
+use Rattle.g4_decide.specs.Going.{IsStep}
 use Rattle.g4_decide.proofs.stepping.make_step.Goals as goal
 
 pub set_of-requires : goal.set_of-requires

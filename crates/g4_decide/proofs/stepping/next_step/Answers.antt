@@ -1,9 +1,7 @@
-use Rattle.std.proofs.Common.{◌≡◌, ◌+◌, inr, subst, ◌∙◌, ap}
+use Rattle.std.proofs.Common.{inr}
 use Rattle.g4_learned.specs.declared.target.Target.TheVariants.{Ended, NotLearned, Row}
 use Rattle.g4_decide.proofs.Going.{came_kept, keeps_on, next_symbol}
 use Rattle.g4_decide.proofs.Steps.{found_end, found_keeps, found_row, step_from}
-use Rattle.g4_decide.specs.Asked.{Told}
-use Rattle.g4_decide.specs.Going.{IsStep}
 use Rattle.g4_decide.proofs.stepping.next_step.Goals as goal
 
 pub target-target-requires-clause-row : goal.target-target-requires-clause-row

@@ -1,13 +1,8 @@
-use Rattle.std.proofs.Common.{◌≡◌, ◌≤◌, ◌<◌, ◌^◌, ℕ, List, All, length, sym, subst, arith, ap}
-use Rattle.std.specs.Prelude.{Some, suc, slice_get, ◌↔◌}
-use Rattle.g4_guards.specs.Levels.{HasDigit}
+use Rattle.std.proofs.Common.{◌≤◌, ◌<◌, ◌^◌, ℕ, List, All, length, sym, subst, arith}
 use Rattle.g4_guards.specs.Tests.{HasFewTests, HasNoPredicate, HasTests, tests_among}
-use Rattle.g4_guards.specs.declared.tests.TheConstants.{MOST_TESTED}
 use Rattle.g4_guards.specs.declared.tests.Tests.TheVariants.{Many}
-use Rattle.g4_net.specs.declared.network.State.TheVariants.{Decision}
-use Rattle.g4_net.specs.Network.{ParserNetwork, state_at}
-use Rattle.g4_run.specs.Running.{Passes, Run}
-use Rattle.g4_parse.specs.Standing.{StandsFor}
+use Rattle.g4_net.specs.Network.{ParserNetwork}
+use Rattle.g4_run.specs.Running.{Passes}
 use Rattle.g4_parse.specs.Teaching.{IsConditionAt}
 use Rattle.g4_parse.proofs.Passing.{AreDigits, few_condition, few_of, first_states_within, level_condition}
 use Rattle.g4_parse.proofs.parser.Parser.condition.Goals as goal

@@ -1,10 +1,9 @@
-use Rattle.std.proofs.Common.{rules, ◌≡◌, ◌≤◌, ◌<◌, ◌⊎◌, inl, inr, ◌∙◌, ℕ, ◌+◌, ◌-◌, ◌*◌, ◌^◌, List, ◌∷◌, Bool, true, false, drop, get_or, suc, refl, sym, subst, arith, length}
-use Rattle.std.proofs.Math.Pow.{pow_mono}
+use Rattle.std.proofs.Common.{◌≡◌, ◌≤◌, ◌<◌, ◌⊎◌, inl, inr, ◌∙◌, ℕ, ◌+◌, ◌-◌, ◌*◌, ◌^◌, List, true, false, drop, get_or, refl, sym, subst, arith, length}
 use Rattle.g4_guards.proofs.Digits.{test_more, tests_free, tests_test}
 use Rattle.g4_guards.specs.Tests.{is_test, tests_among}
 use Rattle.g4_net.specs.Network.{ParserNetwork, state_at}
 use Rattle.g4_run.specs.Running.{Passes}
-use Rattle.g4_parse.proofs.Passing.{AreDigits, digit_fits, digit_says, digit_small, digits_free, digits_none, digits_test, split_at, tests_after, untested_passes}
+use Rattle.g4_parse.proofs.Passing.{AreDigits, digit_fits, digit_says, digit_small, digits_free, digits_test, split_at, tests_after, untested_passes}
 use Rattle.g4_parse.proofs.parser.Parser.digits.Goals as goal
 use Rattle.g4_parse.proofs.parser.Parser.digits.Goals.{then-passes, else-passes}
 

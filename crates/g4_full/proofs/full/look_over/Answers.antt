@@ -1,14 +1,14 @@
-use Rattle.std.proofs.Common.{◌∙◌, reverse, sym}
+use Rattle.std.proofs.Common.{◌∙◌, ◌+◌, ◌≤◌, arith, reverse, sym}
+use Rattle.std.proofs.lemmas.Bool.Decides.{nat_tests}
 use Rattle.g4_net.specs.Allowed.{Allows}
-use Rattle.g4_net.specs.Configurations.{above_bottom}
 use Rattle.g4_configs.specs.Configs.{Holds}
 use Rattle.g4_frames.specs.Framed.{FramedStart}
 use Rattle.g4_frames.proofs.Meaning.{start_framed}
 use Rattle.g4_lookahead.proofs.Proper.{turned_within}
 use Rattle.g4_full.proofs.Placing.{advances_framed, framed_same}
-use Rattle.g4_full.proofs.FullLooking.{placed_next, placed_settled, placed_start}
-use Rattle.g4_full.proofs.Showing.{shows_goes, shows_settles}
-use Rattle.g4_full.proofs.full.settle_over.Goals as goal
+use Rattle.g4_full.proofs.FullLooking.{placed_ahead, placed_next, placed_start, within_word}
+use Rattle.g4_full.proofs.Showing.{shows_ends, shows_goes}
+use Rattle.g4_full.proofs.full.look_over.Goals as goal
 
 pub take_down-requires-clause-states : goal.take_down-requires-clause-states
 take_down-requires-clause-states c = turned_within c.args.net.now c.args.decision c.args.returns.now c.requires.ready.3.well_formed
@@ -32,18 +32,20 @@ take_down-requires-in-loop-k-clause-framed c =
 
 pub loop-k-preserved : goal.loop-k-preserved
 loop-k-preserved c =
-    placed_next c.args.net.now c.args.decision (Allows c.args.allowed.now) (above_bottom (reverse c.args.returns.now))
+    placed_next c.args.net.now c.args.decision (Allows c.args.allowed.now) (reverse c.args.returns.now)
     c.args.tokens.now c.loop-k.k _ c.loop-k-test.true (Holds c.loop-k.place.set) (Holds c.in_ok-next.next)
     (Holds c.in_ok-place-2.place.set) c.loop-k.place.below.now c.in_ok-place-2.place.below.now c.loop-k.invariant
     c.in_ok-next.ensures.members c.in_ok-place-2.ensures
-    (shows_goes (Holds c.in_ok-place-2.place.set) c.loop-k.k c.in_ok-shown.shown (sym c.settle_by.ensures ∙ c.in_default.is)
+    (shows_goes (Holds c.in_ok-place-2.place.set) c.loop-k.k _ c.in_ok-shown.shown (sym c.come_to.ensures ∙ c.in_default.is)
     c.in_ok-shown.ensures)
 
 pub returns-in-Some : goal.returns-in-Some
 returns-in-Some c =
-    placed_settled c.args.net.now c.args.decision (Allows c.args.allowed.now) (above_bottom (reverse c.args.returns.now))
+    placed_ahead c.args.net.now c.args.decision (Allows c.args.allowed.now) (reverse c.args.returns.now)
     c.args.tokens.now c.loop-k.k _ c.loop-k-test.true (Holds c.loop-k.place.set) (Holds c.in_ok-next.next)
     (Holds c.in_ok-place-2.place.set) c.loop-k.place.below.now c.in_ok-place-2.place.below.now c.loop-k.invariant
-    c.in_ok-next.ensures.members c.in_ok-place-2.ensures c.in-Some.settled
-    (shows_settles (Holds c.in_ok-place-2.place.set) c.loop-k.k c.in_ok-shown.shown c.in-Some.settled
-    (sym c.settle_by.ensures ∙ c.in-Some.is) c.in_ok-shown.ensures)
+    c.in_ok-next.ensures.members c.in_ok-place-2.ensures c.args.most _ c.in-Some.ahead
+    (λ is. within_word c.args.tokens.now c.loop-k.k c.args.most c.loop-k-test.true
+    (let few : c.args.most ≤ c.loop-k.k + 1 = grind (arith, nat_tests) in few))
+    (shows_ends (Holds c.in_ok-place-2.place.set) c.loop-k.k _ c.in_ok-shown.shown c.in-Some.ahead
+    (sym c.come_to.ensures ∙ c.in-Some.is) c.in_ok-shown.ensures)
