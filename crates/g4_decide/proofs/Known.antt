@@ -126,7 +126,8 @@ module _ (net : ParserNetwork) (d n : ℕ) where
 
           by : Dec (MayBegin net d n (suc k) t) → Dec (AllowedAt net d n (suc k))
           by (yes m) = yes (t, first, m)
-          by (no not) = no (λ (u, other, m). not (subst (λ (x : ℕ). MayBegin net d n (suc k) x) (one_first net d (suc k) u t other first) m))
+          by (no not) = no (λ (u, other, m). not (subst (λ (x : ℕ). MayBegin net d n (suc k) x) (one_first net d
+              (suc k) u t other first) m))
 
       at_number : (targets : List ℕ) → state_at net d ≡ Some (Decision targets) → (j : ℕ) → Dec (AllowedAt net d n j)
       at_number targets at zero = no (λ (t, (us, k, at', has, number), m). omega (arith, number))

@@ -167,7 +167,8 @@ module _ (net : ParserNetwork) (d : ℕ) (A : ℕ → Type 0) (returns : List �
   }
 
   placed_settled : (s : Settled) → SettlesWith G k s → Full net d A (above_bottom returns) (word_of tokens) (choice_of s)
-  placed_settled s settles = settled net d A (above_bottom returns) tokens k t (Over (reverse below) H) (Over (reverse rest) G) s less onward
+  placed_settled s settles = settled net d A (above_bottom returns) tokens k t (Over (reverse below) H) (Over
+      (reverse rest) G) s less onward
       (settles_over (reverse rest) G k s settles) h.settling
 
   -- the least alternative of the set can be the least that fits

@@ -122,7 +122,8 @@ module _ (net : ParserNetwork) (values : Values) where
   proceeds word (Some (Empty t)) r s before after g = g.0
 
   -- what comes of it there comes of it before a step at a state that is no decision
-  back_went : (word : List ℕ) (r s : Run) (before after : List ℕ) → ((targets : List ℕ) → state_at net r.state ≡ Some (Decision targets) → ⊥)
+  back_went : (word : List ℕ) (r s : Run) (before after : List ℕ) → ((targets : List ℕ) → state_at net r.state ≡ Some
+      (Decision targets) → ⊥)
       → Goes net values word deepest r s → after ≡ before
       → ((more : List ℕ) → TrialEnds net values word r more → TrialEnds net values word beginning (before ++ more))
       → (more : List ℕ) → TrialEnds net values word s more → TrialEnds net values word beginning (after ++ more)

@@ -29,7 +29,8 @@ pub fn predicates_alone_fail()
         Ends net values word (failed_predicate at rule) → FailsAtPredicate net values word at rule }
 {}
 
-/// Where a trial from a moment of a run comes to the end, its first alternative at the decision of the moment is the least that fits what is
+/// Where a trial from a moment of a run comes to the end, its first alternative at the decision of the moment is the least that fits
+    what is
 /// left of the word. A trial from the next moment of the run then comes to the end too, with the alternatives that are left.
 pub fn trials_go_as_runs()
     ensures least { (net : ParserNetwork) (values : Values) (word : List ℕ) (r : Run) (targets : List ℕ) (i : ℕ) (more : List ℕ)
