@@ -132,7 +132,7 @@ module _ (net : ParserNetwork) (values : Values) (word : List ℕ) where
 -- what a turn in the network of the plan foresees
 pub own_foresees : (net own : ParserNetwork) (values : Values) (word : List ℕ) (p : Parser) (before after : Trial) → net ≡ own
     → ((r s : Run) → StandsFor p r → Foresees net values word before r → Goes net values word deepest r s
-        → Foresees net values word after s)
+    → Foresees net values word after s)
     → (r s : Run) → StandsFor p r → Foresees own values word before r → Goes own values word deepest r s → Foresees own values word after s
 own_foresees net own values word p before after same turn =
     subst (λ (n : ParserNetwork). (r s : Run) → StandsFor p r → Foresees n values word before r → Goes n values word deepest r s

@@ -185,7 +185,7 @@ module _ (number : List ℕ → Option ℕ) where
             found = ap (tag_from number text) b.longest ∙ ap (tag_by number text n) ends.0
                 ∙ ap (tag_numbered None (take n text) (n + 1)) named
                 ∙ ap (λ (q : Option (List ℕ) × List ℕ). Some
-                    (record { tag = record { label = q.0; name = q.1; named = tag.named }; width = n + 1 }))
+                (record { tag = record { label = q.0; name = q.1; named = tag.named }; width = n + 1 }))
                 (λ i. (sym e i, ends.1 i));
             left = sym ends.2;
           }
@@ -206,7 +206,7 @@ module _ (number : List ℕ → Option ℕ) where
                 ∙ ap (closed_by number text n m) (ap (λ r. slice_get r m) rest_of ∙ second.0)
                 ∙ ap (tag_numbered (Some (take n text)) (take m (drop (n + 1) text)) (n + m + 2)) named
                 ∙ ap (λ (q : Option (List ℕ) × List ℕ). Some
-                    (record { tag = record { label = q.0; name = q.1; named = tag.named }; width = n + m + 2 }))
+                (record { tag = record { label = q.0; name = q.1; named = tag.named }; width = n + m + 2 }))
                 (λ i. ((ap (λ w. Some w) first.1 ∙ sym e) i, name_is i));
             left = sym second.2 ∙ ap (drop (m + 1)) (sym rest_of) ∙ drop-drop (m + 1) (n + 1) text
                 ∙ ap (λ k. drop k text) sum;

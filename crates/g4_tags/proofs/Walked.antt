@@ -34,7 +34,7 @@ at_start number text joining none new place = record {
   read = nothing text;
   pieces = λ signs. ap (λ (p : Place). pieces_of p signs) (sym place)
       ∙ sym (ap (λ (q : List Piece × Option BegunText). q.0 ++ with_begun q.1 joining.place (pieces_of joining.place signs)) (λ i.
-          (none i, new i)));
+      (none i, new i)));
   place = place;
   within = omega arith;
 }

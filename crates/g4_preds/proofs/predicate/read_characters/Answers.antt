@@ -38,4 +38,4 @@ returns c =
     let depth : HasDepth c.as_slice.result.now c.in_ok-depth.depth =
     subst (λ (ts : List Token). HasDepth ts c.in_ok-depth.depth) (c.as_slice-2.ensures ∙ sym c.as_slice.ensures) c.in_ok-depth.ensures in
     predicate_is c.args.text.now c.as_slice.result.now c.in_ok-nodes.nodes c.in_ok-depth.depth cut c.in_ok-nodes.ensures depth
-        c.if-depth-gt-MOST_NESTED.false
+    c.if-depth-gt-MOST_NESTED.false

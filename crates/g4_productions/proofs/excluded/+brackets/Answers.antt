@@ -39,7 +39,7 @@ add_brackets-returns t c = upon c.open.ensures.moves
     (upon (two {R = λ tree. c.loop-cursor.ranges.items ≡ c.args.ranges.now.items ++ ranges_between tree} c.in_ok-add_excluded.ensures
     (end_turns c.loop-cursor.invariant (led _ _ _ refl ∙ sym c.is_at.ensures ∙ c.loop-cursor-test.false) (sym (append-nil _)))
     (λ s ss p q. q ∙ rw p (append_assoc _ (excluded_ranges s) (excluded_after ss)))) (so c.take-2.ensures
-        (λ closing r sets q opening p. q)))
+    (λ closing r sets q opening p. q)))
 
 pub add_excluded-returns-then-is_at : goal.add_excluded-returns-then-is_at
 add_excluded-returns-then-is_at t c = inside

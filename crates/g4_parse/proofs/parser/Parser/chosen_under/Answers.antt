@@ -20,7 +20,7 @@ pub decide-requires-clause-known : goal.decide-requires-clause-known
 decide-requires-clause-known g c =
     known_option g.B.Home.plan.net.net (g.P.Predicates.values c.args.predicates.now) (word_of c.args.tokens.now) c.args.self.now
     c.args.trial.now c.args.condition c.as_slice-returns.result.now c.next-known.result c.as_slice-returns.ensures.value
-        c.next-known.ensures
+    c.next-known.ensures
     c.requires.decides c.requires.condition c.requires.foreseen
 
 pub chosen_far-requires-clause-matters : goal.chosen_far-requires-clause-matters

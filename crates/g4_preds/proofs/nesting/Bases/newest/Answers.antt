@@ -8,5 +8,5 @@ use Rattle.g4_preds.proofs.nesting.Bases.newest.Goals as goal
 pub returns : goal.returns
 returns c = c.unwrap_or.ensures
     ∙ ap (λ o. unwrap_or o 0) (c.copied.ensures ∙ c.last.ensures.value ∙ ap (λ counts. slice_get counts
-        (length counts - 1)) c.deref.ensures.value
+    (length counts - 1)) c.deref.ensures.value
     ∙ newest-last c.self.inside.counts.items ∙ ap newest c.self.view_is) ∙ base_is c.args.self.now
