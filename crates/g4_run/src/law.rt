@@ -30,8 +30,7 @@ pub fn predicates_alone_fail()
 {}
 
 /// Where a trial from a moment of a run comes to the end, its first alternative at the decision of the moment is the least that fits
-    what is
-/// left of the word. A trial from the next moment of the run then comes to the end too, with the alternatives that are left.
+/// what is left of the word. A trial from the next moment of the run then comes to the end too, with the alternatives that are left.
 pub fn trials_go_as_runs()
     ensures least { (net : ParserNetwork) (values : Values) (word : List ℕ) (r : Run) (targets : List ℕ) (i : ℕ) (more : List ℕ)
         → state_at net r.state ≡ Some (Decision targets) → TrialEnds net values word r (i ∷ more)
