@@ -30,7 +30,7 @@ use std::sync::ledger::Ledger;
 const NEAR: usize = 256;
 
 /// What prediction chooses at a decision under this condition, with the return states of the parser's stack, newest last, on the tokens
-    from
+/// from
 /// a place on: SLL's answer, by what is learned, or where SLL says that the stack matters, the least alternative that may be taken with
 /// which all of the tokens can be read, if it is known, or else that of full stacks, if 256 symbols settle it.
 ///

@@ -180,8 +180,7 @@ impl Parser {
     }
 
     /// The alternative that prediction chooses now where the stack matters and few symbols do not settle it. A trial of the run may find
-        it;
-    /// one is made for a file.
+    /// it; one is made for a file.
     fn chosen_far<B: Home<DecisionNet>, P: Predicates>(
         &self,
         alloc: Global,
