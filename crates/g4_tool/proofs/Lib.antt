@@ -1,3 +1,4 @@
+mod Accepted
 mod Fetched
 mod Gathered
 mod Meant

@@ -1,4 +1,5 @@
 -- Only this crate cites these.
+pub mod Acceptance
 pub mod Cells
 pub mod Counting
 pub mod Ends

@@ -13,6 +13,6 @@ mod stop;
 mod tool;
 mod write;
 
-pub use law::one_end;
+pub use law::{files_are_accepted_by_text, one_end};
 pub use status::Status;
 pub use tool::run;
