@@ -9,7 +9,7 @@ use std::test::*;
 use std::thread::{Threads, for_each_mut, join};
 
 /// How often a thread looks for the other's flag.
-const MOST_TURNS: u32 = 10_000_000;
+const MOST_TURNS: u32 = 1_000_000_000;
 
 /// A hand, and the files that it has taken.
 #[derive(Drop)]

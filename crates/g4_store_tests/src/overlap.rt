@@ -22,7 +22,7 @@ use std::test::Fail;
 use std::thread::{Threads, join};
 
 /// How often a thread looks for the other's flag.
-const MOST_TURNS: u32 = 10_000_000;
+const MOST_TURNS: u32 = 1_000_000_000;
 
 /// How many columns the automaton has.
 const COLUMNS: u32 = 64;

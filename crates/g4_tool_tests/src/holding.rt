@@ -8,7 +8,7 @@ use std::test::*;
 use std::thread::Threads;
 
 /// How often a held worker looks how many files were left.
-const MOST_TURNS: u32 = 10_000_000;
+const MOST_TURNS: u32 = 1_000_000_000;
 
 /// A gate that holds whoever enters it first, until so many files have been left.
 #[derive(Drop)]
